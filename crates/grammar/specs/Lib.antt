@@ -1,0 +1,6 @@
+pub mod Trees
+pub mod Words
+pub mod Templates
+pub mod Grammar
+pub mod Texts
+pub mod Limits
