@@ -2,7 +2,6 @@
 -- or SEQ with two or more parts in brackets, commas between. Plain brackets leave nothing behind in the tree.
 -- (BATT+)+ derives plus (plus (name Batt)), and so does ((BATT)+)+.
 use mathlib.Core.List.{List, [], _∷_, _++_}
-use Prim.Native.Nat.{ℕ, suc, pred, _-_, max}
 use Rattle.events.specs.declared.EventType.{EventType}
 use Rattle.grammar.specs.declared.Symbol.{Symbol}
 use Rattle.grammar.specs.declared.Symbol.the-variants.{Name, Seq, Open, Close, Comma, Plus}

@@ -4,3 +4,4 @@ pub mod Templates
 pub mod Grammar
 pub mod Texts
 pub mod Limits
+pub mod Theorems

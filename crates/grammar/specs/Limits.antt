@@ -1,12 +1,11 @@
 -- The limits of a pattern text besides its grammar: 250 bytes, 16 open brackets, each type name once.
-use mathlib.Core.List.{List, [], _∷_, _++_}
-use mathlib.Core.Path.{_≡_}
+use mathlib.Core.List.{List, [], _∷_}
 use Prim.Native.Nat.{ℕ, suc, pred, max, _≤_}
 use lib.ListN.{length}
 use Rattle.events.specs.declared.EventType.{EventType}
 use Rattle.grammar.specs.declared.Symbol.{Symbol}
 use Rattle.grammar.specs.declared.Symbol.the-variants.{Name, Seq, Open, Close, Comma, Plus}
-use Rattle.grammar.specs.Trees.{Level, part, Tree, names, Distinct}
+use Rattle.grammar.specs.Trees.{part, Tree, names, Distinct}
 use Rattle.grammar.specs.Texts.{tokens, written}
 
 -- how many brackets are open after the tokens, if d were open before them

@@ -5,7 +5,7 @@ use lib.Chars.{codes}
 use Rattle.events.specs.Types.{name-of}
 use Rattle.grammar.specs.declared.Symbol.{Symbol}
 use Rattle.grammar.specs.declared.Symbol.the-variants.{Name, Seq, Open, Close, Comma, Plus}
-use Rattle.grammar.specs.Trees.{Level, part, parts, Tree, name, plus, seq, two, more}
+use Rattle.grammar.specs.Trees.{Level, part, Tree, name, plus, seq, two, more}
 
 -- a part that ends in + is put in brackets before it takes another
 abbrev pub enclosed : Tree part → List Symbol → List Symbol

@@ -1,0 +1,4 @@
+pub mod Paths
+pub mod Machine
+pub mod Depths
+pub mod Derivations

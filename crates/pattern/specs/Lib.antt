@@ -1,0 +1,4 @@
+pub mod Reading
+pub mod Refusals
+pub mod Parsing
+pub mod Stacks

@@ -1,0 +1,176 @@
+//! What one token does to a parser.
+ghost use mathlib.Core.Path.{_≡_};
+ghost use mathlib.Core.List.{[], _∷_};
+ghost use Prim.Native.Nat.{_<_};
+ghost use lib.ListN.{length};
+ghost use Rattle.pattern.specs.Parsing.{view, begun, is-name, has-name, opens, closes, parts, names-part, at-part, at-seq, at-atom, at-end, verdict, Follows};
+use crate::node::Node;
+use crate::parser::Bracket;
+use crate::parser::Mode;
+use crate::parser::Parser;
+use crate::refusal::ReadRefusal;
+use crate::stack::Stack;
+use events::EventType;
+use grammar::Symbol;
+
+impl Parser {
+    pub fn new() -> Parser
+        ensures { λ r. ⌜ view r ≡ begun ⌝ }
+    {
+        Parser {
+            nodes: Stack::new(Node::Plus),
+            brackets: Stack::new(Bracket::Group),
+            mode: Mode::Part,
+        }
+    }
+
+    fn open(&mut self, bracket: Bracket) -> Result<(), ReadRefusal>
+        ensures { λ r. ⌜ Follows (opens bracket (view (now (self .entry)) .brackets) (view (now (self .entry)) .nodes)) r (now (self .exit)) ⌝ }
+    {
+        if self.brackets.len() >= 16 {
+            return Err(ReadRefusal::Depth);
+        }
+        self.brackets.push(bracket);
+        self.mode = Mode::Part;
+        Ok(())
+    }
+
+    fn close(&mut self) -> Result<(), ReadRefusal>
+        requires { ⌜ now self .nodes .len < 250 ⌝ }
+        ensures { λ r. ⌜ Follows (closes (view (now (self .entry)) .brackets) (view (now (self .entry)) .nodes)) r (now (self .exit)) ⌝ }
+    {
+        let Some(bracket) = self.brackets.pop() else {
+            return Err(ReadRefusal::Grammar);
+        };
+        match bracket {
+            Bracket::Group => {}
+            Bracket::First => return Err(ReadRefusal::Grammar),
+            Bracket::Second => self.nodes.push(Node::Pair),
+            Bracket::Later => self.nodes.push(Node::More),
+        }
+        self.mode = Mode::Atom;
+        Ok(())
+    }
+
+    fn comma(&mut self) -> Result<(), ReadRefusal>
+        requires { ⌜ now self .nodes .len < 250 ⌝ }
+        ensures { λ r. ⌜ Follows (parts (view (now (self .entry)) .brackets) (view (now (self .entry)) .nodes)) r (now (self .exit)) ⌝ }
+    {
+        let Some(bracket) = self.brackets.pop() else {
+            return Err(ReadRefusal::Grammar);
+        };
+        match bracket {
+            Bracket::Group => return Err(ReadRefusal::Grammar),
+            Bracket::First => self.brackets.push(Bracket::Second),
+            Bracket::Second => {
+                self.nodes.push(Node::Pair);
+                self.brackets.push(Bracket::Later);
+            }
+            Bracket::Later => {
+                self.nodes.push(Node::More);
+                self.brackets.push(Bracket::Later);
+            }
+        }
+        self.mode = Mode::Part;
+        Ok(())
+    }
+
+    fn name(&mut self, kind: EventType) -> Result<(), ReadRefusal>
+        requires { ⌜ now self .nodes .len < 250 ⌝ }
+        ensures { λ r. ⌜ Follows (names-part kind (view (now (self .entry)) .brackets) (view (now (self .entry)) .nodes)) r (now (self .exit)) ⌝ }
+    {
+        if names(self.nodes.as_slice(), kind) {
+            return Err(ReadRefusal::Repeat);
+        }
+        self.nodes.push(Node::Name(kind));
+        self.mode = Mode::Atom;
+        Ok(())
+    }
+
+    fn at_part(&mut self, symbol: Symbol) -> Result<(), ReadRefusal>
+        requires { ⌜ now self .nodes .len < 250 ⌝ }
+        ensures { λ r. ⌜ Follows (at-part (view (now (self .entry)) .brackets) (view (now (self .entry)) .nodes) symbol) r (now (self .exit)) ⌝ }
+    {
+        match symbol {
+            Symbol::Name(kind) => self.name(kind),
+            Symbol::Open => self.open(Bracket::Group),
+            Symbol::Seq => {
+                self.mode = Mode::Seq;
+                Ok(())
+            }
+            Symbol::Close | Symbol::Comma | Symbol::Plus => Err(ReadRefusal::Grammar),
+        }
+    }
+
+    fn at_seq(&mut self, symbol: Symbol) -> Result<(), ReadRefusal>
+        ensures { λ r. ⌜ Follows (at-seq (view (now (self .entry)) .brackets) (view (now (self .entry)) .nodes) symbol) r (now (self .exit)) ⌝ }
+    {
+        match symbol {
+            Symbol::Open => self.open(Bracket::First),
+            Symbol::Name(_) | Symbol::Seq | Symbol::Close | Symbol::Comma | Symbol::Plus => {
+                Err(ReadRefusal::Grammar)
+            }
+        }
+    }
+
+    fn at_atom(&mut self, symbol: Symbol) -> Result<(), ReadRefusal>
+        requires { ⌜ now self .nodes .len < 250 ⌝ }
+        ensures { λ r. ⌜ Follows (at-atom (view (now (self .entry)) .brackets) (view (now (self .entry)) .nodes) symbol) r (now (self .exit)) ⌝ }
+    {
+        match symbol {
+            Symbol::Plus => {
+                self.nodes.push(Node::Plus);
+                self.mode = Mode::Repeated;
+                Ok(())
+            }
+            Symbol::Name(_) | Symbol::Seq | Symbol::Open | Symbol::Close | Symbol::Comma => {
+                self.at_end(symbol)
+            }
+        }
+    }
+
+    fn at_end(&mut self, symbol: Symbol) -> Result<(), ReadRefusal>
+        requires { ⌜ now self .nodes .len < 250 ⌝ }
+        ensures { λ r. ⌜ Follows (at-end (view (now (self .entry)) .brackets) (view (now (self .entry)) .nodes) symbol) r (now (self .exit)) ⌝ }
+    {
+        match symbol {
+            Symbol::Close => self.close(),
+            Symbol::Comma => self.comma(),
+            Symbol::Name(_) | Symbol::Seq | Symbol::Open | Symbol::Plus => Err(ReadRefusal::Grammar),
+        }
+    }
+
+    /// Takes one token more, or says which of the questions 4 to 6 it fails.
+    pub fn accept(&mut self, symbol: Symbol) -> Result<(), ReadRefusal>
+        requires { ⌜ now self .nodes .len < 250 ⌝ }
+        ensures { λ r. ⌜ Follows (verdict (view (now (self .entry))) symbol) r (now (self .exit)) ⌝ }
+    {
+        match self.mode {
+            Mode::Part => self.at_part(symbol),
+            Mode::Seq => self.at_seq(symbol),
+            Mode::Atom => self.at_atom(symbol),
+            Mode::Repeated => self.at_end(symbol),
+        }
+    }
+}
+
+fn is_name(node: Node, kind: EventType) -> bool
+    ensures { λ r. ⌜ r ≡ is-name kind node ⌝ }
+{
+    match node {
+        Node::Name(other) => other.code() == kind.code(),
+        Node::Plus | Node::Pair | Node::More => false,
+    }
+}
+
+/// Whether the type stands among the nodes.
+fn names(nodes: &[Node], kind: EventType) -> bool
+    ensures { λ r. ⌜ r ≡ has-name kind (now (nodes .entry)) ⌝ }
+{
+    for node in nodes {
+        if is_name(*node, kind) {
+            return true;
+        }
+    }
+    false
+}
