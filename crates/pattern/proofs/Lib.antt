@@ -1,2 +1,4 @@
+pub mod Cutting
 pub mod Holding
 pub mod Scanning
+pub mod Stepping

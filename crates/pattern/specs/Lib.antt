@@ -1,4 +1,6 @@
 pub mod Reading
 pub mod Refusals
+pub mod Nodes
 pub mod Parsing
 pub mod Stacks
+pub mod Tokens

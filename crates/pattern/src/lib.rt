@@ -4,3 +4,5 @@ mod node;
 mod parser;
 mod stack;
 pub mod refusal;
+pub mod scan;
+pub mod token;
