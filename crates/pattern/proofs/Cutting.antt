@@ -42,7 +42,7 @@ stops-here text i h other = at-byte Other-first text i h other
 pub stops-end : (text : List ℕ) (i : ℕ) → length text ≤ i → Other-first (drop i text)
 stops-end text i h = subst Other-first (sym (drop-all i text h)) tt
 
-run-of : (p : ℕ) (w bs : List ℕ) (ss : List Stretch) → 0 < length w → Letters w → Other-first bs → Cut (p + length w) bs ss → Cut p (w ++ bs) (at p w ∷ ss)
+pub run-of : (p : ℕ) (w bs : List ℕ) (ss : List Stretch) → 0 < length w → Letters w → Other-first bs → Cut (p + length w) bs ss → Cut p (w ++ bs) (at p w ∷ ss)
 run-of p [] bs ss some all other c = absurd (omega arith)
 run-of p (b ∷ w) bs ss some all other c = run all other c
 
@@ -72,7 +72,7 @@ sign-first text i b h is other solid =
     subst (First-is text i i (b ∷ [])) (sym (add-one i))
     (subst (λ x. First-is text i i (x ∷ []) (suc i)) is (single-first text i h (λ l. other (subst Letter is l)) solid))
 
-name-long : (k : EventType) → 4 ≤ length (name-of k)
+pub name-long : (k : EventType) → 4 ≤ length (name-of k)
 name-long Test = omega arith
 name-long Miss = omega arith
 name-long Drop = omega arith

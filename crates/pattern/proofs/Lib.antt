@@ -1,4 +1,9 @@
 pub mod Cutting
 pub mod Holding
+pub mod OneOutcome
+pub mod Parsed
+pub mod RoundTrip
 pub mod Scanning
+pub mod Singles
 pub mod Stepping
+pub mod Validity

@@ -129,12 +129,12 @@ parting xs m (first ∷ fs) ns now t holds e = record { now-mode = want; now-fra
 parting xs m (second u ∷ fs) ns now t holds e = record { now-mode = want; now-frames = later (two u t) ∷ fs; same-mode = refl; same-brackets = refl; kept = silent xs m (second u ∷ fs) ns now Comma want (later (two u t) ∷ fs) (node.Pair ∷ ns) refl (λ k. refl) e (ap (join-last (λ a b. seq (two a b))) holds) (now .few); fresh = tt }
 parting xs m (later us ∷ fs) ns now t holds e = record { now-mode = want; now-frames = later (more us t) ∷ fs; same-mode = refl; same-brackets = refl; kept = silent xs m (later us ∷ fs) ns now Comma want (later (more us t) ∷ fs) (node.More ∷ ns) refl (λ k. refl) e (ap (join-last lengthened) holds) (now .few); fresh = tt }
 
-in-either : {X : Type 0} {x : X} (xs ys : List X) → In x (xs ++ ys) → In x xs ⊎ In x ys
+pub in-either : {X : Type 0} {x : X} (xs ys : List X) → In x (xs ++ ys) → In x xs ⊎ In x ys
 in-either [] ys i = inr i
 in-either (x ∷ xs) ys here = inl here
 in-either (x ∷ xs) ys (there i) = ⊎-elim (λ l. inl (there l)) (λ r. inr r) (in-either xs ys i)
 
-only-one : {X : Type 0} {x y : X} → In x (y ∷ []) → y ≡ x
+pub only-one : {X : Type 0} {x y : X} → In x (y ∷ []) → y ≡ x
 only-one here = refl
 only-one (there i) = elim i [ ]
 

@@ -1,3 +1,4 @@
+pub mod Patterns
 pub mod Reading
 pub mod Refusals
 pub mod Nodes

@@ -14,7 +14,12 @@ use Rattle.pattern.specs.declared.node.Node.{Node}
 use Rattle.pattern.specs.declared.node.Node.the-variants as node
 use Rattle.pattern.specs.declared.parser.Bracket.{Bracket}
 use Rattle.pattern.specs.declared.parser.Bracket.the-variants.{Group, First, Second, Later}
+use Rattle.grammar.specs.Texts.{spelled}
+use Rattle.pattern.specs.declared.refusal.ReadFault.{ReadFault}
+use Rattle.pattern.specs.declared.token.Placed.{Placed}
+use Rattle.pattern.specs.Reading.{Unknown}
 use Rattle.pattern.specs.Stacks.{held}
+use Rattle.pattern.specs.Tokens.{bytes, Worded}
 use Rattle.pattern.specs.declared.parser.Parser.{Parser}
 use Rattle.pattern.specs.declared.parser.Mode.{Mode}
 use Rattle.pattern.specs.declared.parser.Mode.the-variants as mode
@@ -114,3 +119,26 @@ view p = record { mode = p .mode; brackets = held (p .brackets .items) (p .brack
 abbrev pub Follows : Verdict → Result (Unit {0}) ReadRefusal → Parser → Type 0
 Follows v (Ok x) p = v ≡ Ok (view p)
 Follows v (Err e) p = v ≡ Err e
+
+abbrev pub none-open : List Bracket → Bool
+none-open [] = true
+none-open (b ∷ bs) = false
+
+-- the tokens so far are a pattern
+abbrev pub is-whole-at : Mode → List Bracket → Bool
+is-whole-at mode.Part bs = false
+is-whole-at mode.Seq bs = false
+is-whole-at mode.Atom bs = none-open bs
+is-whole-at mode.Repeated bs = none-open bs
+
+abbrev pub is-whole : View → Bool
+is-whole v = is-whole-at (v .mode) (v .brackets)
+
+-- one token more: an unknown word, or the verdict on its symbol
+pub data Stopped (v : View) (t : Placed) : ReadFault → Type 0 where
+  by-word : (Worded (t .token) → Unknown (bytes (t .token))) → {f : ReadFault} → f .refusal ≡ refusal.Word → f .place ≡ t .place → Stopped v t f
+  by-verdict : (x : Symbol) → spelled x ≡ bytes (t .token) → {f : ReadFault} → verdict v x ≡ Err (f .refusal) → f .place ≡ t .place → Stopped v t f
+
+abbrev pub Took : View → Placed → Result (Unit {0}) ReadFault → View → Type 0
+Took v t (Ok x) w = (x : Symbol) × (spelled x ≡ bytes (t .token)) × (verdict v x ≡ Ok w)
+Took v t (Err f) w = Stopped v t f

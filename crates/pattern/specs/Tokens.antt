@@ -8,6 +8,10 @@ use Rattle.std.specs.declared.option.Option.{Option}
 use Rattle.std.specs.declared.option.Option.the-variants.{Some, None}
 use Rattle.std.specs.declared.result.Result.{Result}
 use Rattle.std.specs.declared.result.Result.the-variants.{Ok, Err}
+use Rattle.grammar.specs.declared.Symbol.{Symbol}
+use Rattle.grammar.specs.Texts.{spelled}
+use Rattle.pattern.specs.declared.refusal.ReadFault.{ReadFault}
+use Rattle.pattern.specs.declared.refusal.ReadRefusal.the-variants.{Byte}
 use Rattle.pattern.specs.declared.token.Placed.{Placed}
 use Rattle.pattern.specs.declared.token.Token.{Token}
 use Rattle.pattern.specs.declared.token.Token.the-variants.{Word, Open, Close, Comma, Plus}
@@ -54,7 +58,12 @@ Found text place None = Is-wrong text place place
 Found text place (Some t) = Is-token text place place (t .0) (t .1)
 
 -- no token is left, or here is the first one, or a byte that no pattern has stands first
-abbrev pub Next : List ℕ → ℕ → Result (Option Placed) ℕ → ℕ → Type 0
+abbrev pub Next : List ℕ → ℕ → Result (Option Placed) ReadFault → ℕ → Type 0
 Next text from (Ok None) to = Cut from (drop from text) []
 Next text from (Ok (Some t)) to = Is-token text from (t .place) (t .token) to
-Next text from (Err place) to = Is-wrong text from place
+Next text from (Err f) to = Is-wrong text from (f .place) × (f .refusal ≡ Byte)
+
+-- the symbol that a token is, or none if it is an unknown word
+abbrev pub Symbolic : Token → Option Symbol → Type 0
+Symbolic t None = Worded t → Unknown (bytes t)
+Symbolic t (Some x) = spelled x ≡ bytes t

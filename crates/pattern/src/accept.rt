@@ -1,7 +1,7 @@
 //! What one token does to a parser.
 ghost use mathlib.Core.Path.{_≡_};
 ghost use mathlib.Core.List.{[], _∷_};
-ghost use Prim.Native.Nat.{_<_};
+ghost use Prim.Native.Nat.{_+_, _<_, _≤_};
 ghost use lib.ListN.{length};
 ghost use Rattle.pattern.specs.Parsing.{view, begun, is-name, has-name, opens, closes, parts, names-part, at-part, at-seq, at-atom, at-end, verdict, Follows};
 use crate::node::Node;
@@ -15,7 +15,8 @@ use grammar::Symbol;
 
 impl Parser {
     pub fn new() -> Parser
-        ensures { λ r. ⌜ view r ≡ begun ⌝ }
+        ensures empty { λ r. ⌜ r .nodes .len ≡ 0 ⌝ }
+        ensures begun { λ r. ⌜ view r ≡ begun ⌝ }
     {
         Parser {
             nodes: Stack::new(Node::Plus),
@@ -25,7 +26,8 @@ impl Parser {
     }
 
     fn open(&mut self, bracket: Bracket) -> Result<(), ReadRefusal>
-        ensures { λ r. ⌜ Follows (opens bracket (view (now (self .entry)) .brackets) (view (now (self .entry)) .nodes)) r (now (self .exit)) ⌝ }
+        ensures grown { λ _. ⌜ now (self .exit) .nodes .len ≤ now (self .entry) .nodes .len + 1 ⌝ }
+        ensures verdict { λ r. ⌜ Follows (opens bracket (view (now (self .entry)) .brackets) (view (now (self .entry)) .nodes)) r (now (self .exit)) ⌝ }
     {
         if self.brackets.len() >= 16 {
             return Err(ReadRefusal::Depth);
@@ -37,7 +39,8 @@ impl Parser {
 
     fn close(&mut self) -> Result<(), ReadRefusal>
         requires { ⌜ now self .nodes .len < 250 ⌝ }
-        ensures { λ r. ⌜ Follows (closes (view (now (self .entry)) .brackets) (view (now (self .entry)) .nodes)) r (now (self .exit)) ⌝ }
+        ensures grown { λ _. ⌜ now (self .exit) .nodes .len ≤ now (self .entry) .nodes .len + 1 ⌝ }
+        ensures verdict { λ r. ⌜ Follows (closes (view (now (self .entry)) .brackets) (view (now (self .entry)) .nodes)) r (now (self .exit)) ⌝ }
     {
         let Some(bracket) = self.brackets.pop() else {
             return Err(ReadRefusal::Grammar);
@@ -54,7 +57,8 @@ impl Parser {
 
     fn comma(&mut self) -> Result<(), ReadRefusal>
         requires { ⌜ now self .nodes .len < 250 ⌝ }
-        ensures { λ r. ⌜ Follows (parts (view (now (self .entry)) .brackets) (view (now (self .entry)) .nodes)) r (now (self .exit)) ⌝ }
+        ensures grown { λ _. ⌜ now (self .exit) .nodes .len ≤ now (self .entry) .nodes .len + 1 ⌝ }
+        ensures verdict { λ r. ⌜ Follows (parts (view (now (self .entry)) .brackets) (view (now (self .entry)) .nodes)) r (now (self .exit)) ⌝ }
     {
         let Some(bracket) = self.brackets.pop() else {
             return Err(ReadRefusal::Grammar);
@@ -77,7 +81,8 @@ impl Parser {
 
     fn name(&mut self, kind: EventType) -> Result<(), ReadRefusal>
         requires { ⌜ now self .nodes .len < 250 ⌝ }
-        ensures { λ r. ⌜ Follows (names-part kind (view (now (self .entry)) .brackets) (view (now (self .entry)) .nodes)) r (now (self .exit)) ⌝ }
+        ensures grown { λ _. ⌜ now (self .exit) .nodes .len ≤ now (self .entry) .nodes .len + 1 ⌝ }
+        ensures verdict { λ r. ⌜ Follows (names-part kind (view (now (self .entry)) .brackets) (view (now (self .entry)) .nodes)) r (now (self .exit)) ⌝ }
     {
         if names(self.nodes.as_slice(), kind) {
             return Err(ReadRefusal::Repeat);
@@ -89,7 +94,8 @@ impl Parser {
 
     fn at_part(&mut self, symbol: Symbol) -> Result<(), ReadRefusal>
         requires { ⌜ now self .nodes .len < 250 ⌝ }
-        ensures { λ r. ⌜ Follows (at-part (view (now (self .entry)) .brackets) (view (now (self .entry)) .nodes) symbol) r (now (self .exit)) ⌝ }
+        ensures grown { λ _. ⌜ now (self .exit) .nodes .len ≤ now (self .entry) .nodes .len + 1 ⌝ }
+        ensures verdict { λ r. ⌜ Follows (at-part (view (now (self .entry)) .brackets) (view (now (self .entry)) .nodes) symbol) r (now (self .exit)) ⌝ }
     {
         match symbol {
             Symbol::Name(kind) => self.name(kind),
@@ -103,7 +109,8 @@ impl Parser {
     }
 
     fn at_seq(&mut self, symbol: Symbol) -> Result<(), ReadRefusal>
-        ensures { λ r. ⌜ Follows (at-seq (view (now (self .entry)) .brackets) (view (now (self .entry)) .nodes) symbol) r (now (self .exit)) ⌝ }
+        ensures grown { λ _. ⌜ now (self .exit) .nodes .len ≤ now (self .entry) .nodes .len + 1 ⌝ }
+        ensures verdict { λ r. ⌜ Follows (at-seq (view (now (self .entry)) .brackets) (view (now (self .entry)) .nodes) symbol) r (now (self .exit)) ⌝ }
     {
         match symbol {
             Symbol::Open => self.open(Bracket::First),
@@ -115,7 +122,8 @@ impl Parser {
 
     fn at_atom(&mut self, symbol: Symbol) -> Result<(), ReadRefusal>
         requires { ⌜ now self .nodes .len < 250 ⌝ }
-        ensures { λ r. ⌜ Follows (at-atom (view (now (self .entry)) .brackets) (view (now (self .entry)) .nodes) symbol) r (now (self .exit)) ⌝ }
+        ensures grown { λ _. ⌜ now (self .exit) .nodes .len ≤ now (self .entry) .nodes .len + 1 ⌝ }
+        ensures verdict { λ r. ⌜ Follows (at-atom (view (now (self .entry)) .brackets) (view (now (self .entry)) .nodes) symbol) r (now (self .exit)) ⌝ }
     {
         match symbol {
             Symbol::Plus => {
@@ -131,19 +139,23 @@ impl Parser {
 
     fn at_end(&mut self, symbol: Symbol) -> Result<(), ReadRefusal>
         requires { ⌜ now self .nodes .len < 250 ⌝ }
-        ensures { λ r. ⌜ Follows (at-end (view (now (self .entry)) .brackets) (view (now (self .entry)) .nodes) symbol) r (now (self .exit)) ⌝ }
+        ensures grown { λ _. ⌜ now (self .exit) .nodes .len ≤ now (self .entry) .nodes .len + 1 ⌝ }
+        ensures verdict { λ r. ⌜ Follows (at-end (view (now (self .entry)) .brackets) (view (now (self .entry)) .nodes) symbol) r (now (self .exit)) ⌝ }
     {
         match symbol {
             Symbol::Close => self.close(),
             Symbol::Comma => self.comma(),
-            Symbol::Name(_) | Symbol::Seq | Symbol::Open | Symbol::Plus => Err(ReadRefusal::Grammar),
+            Symbol::Name(_) | Symbol::Seq | Symbol::Open | Symbol::Plus => Err(
+                ReadRefusal::Grammar,
+            ),
         }
     }
 
     /// Takes one token more, or says which of the questions 4 to 6 it fails.
     pub fn accept(&mut self, symbol: Symbol) -> Result<(), ReadRefusal>
         requires { ⌜ now self .nodes .len < 250 ⌝ }
-        ensures { λ r. ⌜ Follows (verdict (view (now (self .entry))) symbol) r (now (self .exit)) ⌝ }
+        ensures grown { λ _. ⌜ now (self .exit) .nodes .len ≤ now (self .entry) .nodes .len + 1 ⌝ }
+        ensures verdict { λ r. ⌜ Follows (verdict (view (now (self .entry))) symbol) r (now (self .exit)) ⌝ }
     {
         match self.mode {
             Mode::Part => self.at_part(symbol),

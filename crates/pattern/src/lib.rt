@@ -2,7 +2,9 @@
 mod accept;
 mod node;
 mod parser;
-mod stack;
+pub mod pattern;
+mod read;
 pub mod refusal;
 pub mod scan;
+mod stack;
 pub mod token;

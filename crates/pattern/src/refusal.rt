@@ -40,7 +40,7 @@ impl ReadRefusal {
 pub struct ReadFault {
     pub refusal: ReadRefusal,
     /// The count of bytes before the token or the wrong byte.
-    pub place: u8,
+    pub place: usize,
 }
 
 /// Why a pattern is not written.

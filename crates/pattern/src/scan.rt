@@ -5,9 +5,14 @@ ghost use Prim.Native.Nat.{_≤_, _<_};
 ghost use lib.ListN.{length, drop, getD};
 ghost use Rattle.std.specs.Holes.{between};
 ghost use Rattle.pattern.specs.Reading.{Letters, Other-first, Stretch, Cut};
-ghost use Rattle.pattern.specs.Tokens.{Found, Next};
+ghost use Rattle.pattern.specs.Tokens.{Found, Next, Symbolic};
+ghost use Rattle.pattern.specs.declared.token.Token.the-variants.{Word};
+use crate::refusal::ReadFault;
+use crate::refusal::ReadRefusal;
 use crate::token::Placed;
 use crate::token::Token;
+use events::EventType;
+use grammar::Symbol;
 
 /// The tokens of a text that are still to come.
 #[derive(Clone, Copy)]
@@ -73,7 +78,7 @@ impl<'a> Tokens<'a> {
     }
 
     /// The next token, or none at the end, or the place of a byte that no pattern has.
-    pub fn next(&mut self) -> Result<Option<Placed<'a>>, usize>
+    pub fn next(&mut self) -> Result<Option<Placed<'a>>, ReadFault>
         ensures text { λ _. ⌜ now (self .exit) .text .now ≡ now (self .entry) .text .now ⌝ }
         ensures next { λ r. ⌜ Next (now (self .entry) .text .now) (now (self .entry) .at) r (now (self .exit) .at) ⌝ }
     {
@@ -83,9 +88,38 @@ impl<'a> Tokens<'a> {
             return Ok(None);
         }
         let Some((token, end)) = token_at(text, place) else {
-            return Err(place);
+            let refusal = ReadRefusal::Byte;
+            return Err(ReadFault { refusal, place });
         };
         self.at = end;
         Ok(Some(Placed { token, place }))
+    }
+}
+
+impl Token<'_> {
+    /// The symbol that the token is, or none if it is an unknown word.
+    pub fn symbol(self) -> Option<Symbol>
+        ensures { λ r. ⌜ Symbolic (self .entry) r ⌝ }
+    {
+        match self {
+            Token::Open => Some(Symbol::Open),
+            Token::Close => Some(Symbol::Close),
+            Token::Comma => Some(Symbol::Comma),
+            Token::Plus => Some(Symbol::Plus),
+            Token::Word(word) => symbol_of(word),
+        }
+    }
+}
+
+/// `SEQ` or a type name.
+fn symbol_of(word: &[u8]) -> Option<Symbol>
+    ensures { λ r. ⌜ Symbolic (Word (word .entry)) r ⌝ }
+{
+    if word == b"SEQ" {
+        return Some(Symbol::Seq);
+    }
+    match EventType::from_name(word) {
+        Some(kind) => Some(Symbol::Name(kind)),
+        None => None,
     }
 }

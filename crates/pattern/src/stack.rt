@@ -10,17 +10,21 @@ ghost use Rattle.pattern.specs.Stacks.{held};
 
 #[derive(Drop)]
 pub struct Stack<T, const N: usize> {
-    items: [T; N],
-    len: usize,
+    pub(crate) items: [T; N],
+    pub(crate) len: usize,
     ghost sized: { length items ≡ N },
     ghost within: { len ≤ N },
 }
 
 impl<T: Copy, const N: usize> Stack<T, N> {
     pub fn new(fill: T) -> Stack<T, N>
-        ensures { λ r. ⌜ held (r .items) (r .len) ≡ [] ⌝ }
+        ensures len { λ r. ⌜ r .len ≡ 0 ⌝ }
+        ensures items { λ r. ⌜ held (r .items) (r .len) ≡ [] ⌝ }
     {
-        Stack { items: [fill; N], len: 0 }
+        Stack {
+            items: [fill; N],
+            len: 0,
+        }
     }
 
     pub fn len(&self) -> usize
