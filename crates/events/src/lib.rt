@@ -1,5 +1,6 @@
 //! The ten types of event that a lift's unit logs: their codes and their names.
 ghost use mathlib.Core.Path.{_≡_};
+ghost use Prim.Native.Nat.{_<_};
 ghost use Rattle.std.specs.Options.{Cases as BySome};
 ghost use Rattle.events.specs.Types.{code-of, name-of};
 
@@ -34,7 +35,8 @@ impl EventType {
 
     /// The number that stands for the type in a record.
     pub fn code(self) -> u8
-        ensures { λ r. ⌜ r ≡ code-of self ⌝ }
+        ensures value { λ r. ⌜ r ≡ code-of self ⌝ }
+        ensures below { λ r. ⌜ r < 10 ⌝ }
     {
         self as u8
     }

@@ -1,5 +1,8 @@
+pub mod Compiling
 pub mod Cutting
+pub mod Held
 pub mod Holding
+pub mod Marking
 pub mod OneOutcome
 pub mod Parsed
 pub mod RoundTrip

@@ -136,6 +136,14 @@ whole-tree (ended t) (f ∷ fs) ns holds e = absurd (false≢true e)
 whole-tree (done t) [] ns holds e = ap (λ ts. Some (last-of ts)) (sym holds)
 whole-tree (done t) (f ∷ fs) ns holds e = absurd (false≢true e)
 
+whole-one : (m : Mode) (fs : List Frame) → is-whole-at (mode-of m) (map bracket fs) ≡ true → length (ready m (waiting fs)) ≡ 1
+whole-one want fs e = absurd (false≢true e)
+whole-one want-open fs e = absurd (false≢true e)
+whole-one (ended t) [] e = refl
+whole-one (ended t) (f ∷ fs) e = absurd (false≢true e)
+whole-one (done t) [] e = refl
+whole-one (done t) (f ∷ fs) e = absurd (false≢true e)
+
 not-whole : (m : Mode) (fs : List Frame) (t : Tree part) → is-whole-at (mode-of m) (map bracket fs) ≡ false → result-in m fs ≡ Some t → ⊥
 not-whole want fs t e r = let z : _≡_ {A = ℕ} 0 1 = cc in omega arith
 not-whole want-open fs t e r = let z : _≡_ {A = ℕ} 0 1 = cc in omega arith
@@ -150,6 +158,9 @@ module _ (text : List ℕ) (from : ℕ) (p : Parser) (now : Sofar text from p) (
 
   pub at-end : is-whole (view p) ≡ true → Reads text (accepted (tree-of (view p .nodes)))
   at-end e = now .rest [] _ none (whole (sound (now .kept .reached) (whole-tree (now .in-mode) (now .in-frames) (view p .nodes) (now .kept .holds) (sym asked ∙ e))))
+
+  pub one-part : is-whole (view p) ≡ true → length (trees (view p .nodes)) ≡ 1
+  one-part e = ap length (now .kept .holds) ∙ whole-one (now .in-mode) (now .in-frames) (sym asked ∙ e)
 
   pub cut-short : is-whole (view p) ≡ false → Reads text (refused refusal.Grammar (length text))
   unfolding result-of

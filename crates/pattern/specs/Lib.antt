@@ -1,6 +1,7 @@
 pub mod Patterns
 pub mod Reading
 pub mod Refusals
+pub mod Compiled
 pub mod Nodes
 pub mod Parsing
 pub mod Stacks

@@ -1,5 +1,6 @@
 //! Patterns: read from a text, written back, and compiled to a template.
 mod accept;
+mod compile;
 mod node;
 mod parser;
 pub mod pattern;
@@ -7,4 +8,5 @@ mod read;
 pub mod refusal;
 pub mod scan;
 mod stack;
+pub mod template;
 pub mod token;

@@ -1,7 +1,9 @@
 //! A pattern that reading can give.
+ghost use mathlib.Core.Path.{_≡_};
 ghost use Prim.Native.Nat.{_≤_};
+ghost use lib.ListN.{length};
 ghost use Rattle.grammar.specs.Limits.{Valid};
-ghost use Rattle.pattern.specs.Nodes.{tree-of};
+ghost use Rattle.pattern.specs.Nodes.{trees, tree-of};
 ghost use Rattle.pattern.specs.Stacks.{held};
 use crate::node::Node;
 
@@ -11,5 +13,6 @@ pub struct Pattern {
     pub(crate) nodes: [Node; 250],
     pub(crate) len: usize,
     ghost within: { len ≤ 250 },
+    ghost one: { length (trees (held nodes len)) ≡ 1 },
     ghost valid: { ∥ Valid (tree-of (held nodes len)) ∥₁ },
 }

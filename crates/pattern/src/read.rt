@@ -5,7 +5,7 @@ ghost use lib.ListN.{length};
 ghost use Rattle.std.specs.Results.{Cases};
 ghost use Rattle.grammar.specs.Limits.{Valid};
 ghost use Rattle.grammar.specs.Trees.{name};
-ghost use Rattle.pattern.specs.Nodes.{tree-of};
+ghost use Rattle.pattern.specs.Nodes.{trees, tree-of};
 ghost use Rattle.pattern.specs.Parsing.{view, is-whole, Took};
 ghost use Rattle.pattern.specs.Patterns.{tree, outcome, read-outcome};
 ghost use Rattle.pattern.specs.Reading.{Reads, Outcome};
@@ -48,7 +48,8 @@ impl Parser {
     }
 
     fn into_pattern(self) -> Pattern
-        requires { ⌜ Valid (tree-of (view self .nodes)) ⌝ }
+        requires one { ⌜ length (trees (view self .nodes)) ≡ 1 ⌝ }
+        requires valid { ⌜ Valid (tree-of (view self .nodes)) ⌝ }
         ensures { λ r. ⌜ tree r ≡ tree-of (view self .nodes) ⌝ }
     {
         let nodes = self.nodes.items;

@@ -8,7 +8,7 @@ use Rattle.pattern.specs.Nodes.{tree-of}
 use Rattle.pattern.specs.Parsing.{view}
 use Rattle.pattern.specs.Reading.{Cut, Reads, accepted, refused}
 use Rattle.pattern.specs.Tokens.{Is-token, Is-wrong, Next}
-use Rattle.pattern.proofs.Parsed.{Sofar, begun-so, wrong-byte, one-more, one-stop, at-end, cut-short}
+use Rattle.pattern.proofs.Parsed.{Sofar, begun-so, wrong-byte, one-more, one-stop, at-end, one-part, cut-short}
 use Rattle.pattern.proofs.Validity.{read-valid}
 use Rattle.pattern.proofs.read.parse_tokens.Needs as need
 use Rattle.pattern.proofs.read.parse_tokens.Needs.{In-Some, In-rest}
@@ -53,7 +53,14 @@ pub returns-then-not-is-whole : need.returns-then-not-is-whole
 returns-then-not-is-whole c = cut-short (c .args .text .now) (c .loop-placed .tokens .at) (c .loop-placed .parser) (c .loop-placed .inv .2) (none (need.at·returns-then-not-is-whole c .In-rest)) (sym (c .if-not-is-whole .ensures tt))
 
 pub into-pattern-requires : need.into-pattern-requires
-into-pattern-requires c κs = read-valid (c .args .text .now) (tree-of (view (c .loop-placed .parser) .nodes)) (at-end (c .args .text .now) (c .loop-placed .tokens .at) (c .loop-placed .parser) (c .loop-placed .inv .2) (none (need.at·into-pattern-requires c .In-rest)) (sym (c .if-not-is-whole .ensures tt)))
+into-pattern-requires c κs =
+    let whole = sym (c .if-not-is-whole .ensures tt) in
+    let end = none (need.at·into-pattern-requires c .In-rest) in
+    let text = c .args .text .now in
+    record {
+      one = one-part text (c .loop-placed .tokens .at) (c .loop-placed .parser) (c .loop-placed .inv .2) end whole;
+      valid = read-valid text (tree-of (view (c .loop-placed .parser) .nodes)) (at-end text (c .loop-placed .tokens .at) (c .loop-placed .parser) (c .loop-placed .inv .2) end whole);
+    }
 
 pub returns : need.returns
 returns c = subst (λ t. Reads (c .args .text .now) (accepted t)) (sym (c .into-pattern .ensures)) (at-end (c .args .text .now) (c .loop-placed .tokens .at) (c .loop-placed .parser) (c .loop-placed .inv .2) (none (need.at·returns c .In-rest)) (sym (c .if-not-is-whole .ensures tt)))

@@ -1,6 +1,7 @@
+use mathlib.Core.Path.{refl}
 use native.Mathlib.Omega.{arith}
 use Rattle.pattern.proofs.Singles.{single-valid}
 use Rattle.pattern.proofs.pattern.Pattern.single.Needs as need
 
 pub ghost-result : need.ghost-result
-ghost-result c = (omega arith, (∣ single-valid (c .args .kind) ∣₁, tt))
+ghost-result c = (omega arith, (refl, (∣ single-valid (c .args .kind) ∣₁, tt)))
