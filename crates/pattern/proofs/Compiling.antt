@@ -86,14 +86,17 @@ longer = record { starts = starts; ends = ends; all-names = all-names; all-steps
     starts (name k) u = refl
     starts (plus t) u = refl
     starts (seq ts) u = refl
+
     ends : (t u : Tree part) → end-of (lengthened t u) ≡ end-of u
     ends (name k) u = refl
     ends (plus t) u = refl
     ends (seq ts) u = refl
+
     all-names : (t u : Tree part) → names (lengthened t u) ≡ names t ++ names u
     all-names (name k) u = refl
     all-names (plus t) u = refl
     all-names (seq ts) u = refl
+
     all-steps : (t u : Tree part) (a b : ℕ) → Step (lengthened t u) a b ↔ (Step t a b ⊎ (Step u a b ⊎ ((a ≡ end-of t) × (b ≡ start-of u))))
     all-steps (name k) u a b = (λ q. q, λ q. q)
     all-steps (plus t) u a b = (λ q. q, λ q. q)
@@ -106,6 +109,7 @@ module _ (f : Tree part → Tree part → Tree part) (joins : Joins f) (nodes : 
     where
       r : Span
       r = record { start = left .start; end = right .end; from = left .from }
+
       go : (ts : List (Tree part)) → trees ns ≡ ts → Added-at nodes s s₃ r (join-last f ts)
       go [] e = tt
       go (u ∷ []) e = tt
@@ -156,8 +160,7 @@ leads-by S R start start′ end end′ e d f (a ∷ w) p = (p .0 ∙ e, subst (�
 
 pub decides-words : (t : Tree part) (r : Template) → Distinct (names t) → Template-of t r → Decides-words t r
 decides-words t r once is w =
-    let law = words-are-paths t once w in
-    (
+    let law = words-are-paths t once w in (
       λ p. leads-by (Step t) (Has-step r) _ _ _ _ (sym (is .starts)) (sym (is .ends)) (λ a b q. is .steps a b .1 q) w (law .0 p),
       λ p. law .1 (leads-by (Has-step r) (Step t) _ _ _ _ (is .starts) (is .ends) (λ a b q. is .steps a b .0 q) w p),
     )

@@ -9,4 +9,5 @@ pub mod RoundTrip
 pub mod Scanning
 pub mod Singles
 pub mod Stepping
+pub mod Symbols
 pub mod Validity

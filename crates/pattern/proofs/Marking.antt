@@ -18,16 +18,14 @@ marks-more xs i j h = (
 
 pub marked-more : (xs : List Bool) (i k a : ℕ) → length xs ≡ 10 → i ≡ k → i < 10 → Marked (set xs i true) a ↔ (Marked xs a ⊎ (a ≡ k))
 marked-more xs i k a long e h =
-    let m = marks-more xs i a (omega arith) in
-    (
+    let m = marks-more xs i a (omega arith) in (
       λ p. ⊎-elim (λ l. inl (p .0, l)) (λ r. inr (omega arith)) (m .0 (p .1)),
       ⊎-elim (λ l. (l .0, m .1 (inl (l .1)))) (λ r. (omega arith, m .1 (inr (omega arith)))),
     )
 
 pub marked-step-more : (xs : List Bool) (i j k l a b : ℕ) → length xs ≡ 100 → i ≡ k → j ≡ l → i < 10 → j < 10 → Marked-step (set xs (10 * i + j) true) a b ↔ (Marked-step xs a b ⊎ ((a ≡ k) × (b ≡ l)))
 marked-step-more xs i j k l a b long e f h g =
-    let m = marks-more xs (10 * i + j) (10 * a + b) (omega arith) in
-    (
+    let m = marks-more xs (10 * i + j) (10 * a + b) (omega arith) in (
       λ p. let lo = p .0 in let hi = p .1 in ⊎-elim (λ q. inl (p .0, p .1, q)) (λ r. inr (omega arith, omega arith)) (m .0 (p .2)),
       ⊎-elim (λ q. (q .0, q .1, m .1 (inl (q .2)))) (λ r. (omega (arith, r .0), omega (arith, r .1), m .1 (inr (omega (arith, r .0, r .1))))),
     )

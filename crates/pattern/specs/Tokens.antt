@@ -9,6 +9,7 @@ use Rattle.std.specs.declared.option.Option.the-variants.{Some, None}
 use Rattle.std.specs.declared.result.Result.{Result}
 use Rattle.std.specs.declared.result.Result.the-variants.{Ok, Err}
 use Rattle.grammar.specs.declared.Symbol.{Symbol}
+use Rattle.grammar.specs.declared.Symbol.the-variants as symbol
 use Rattle.grammar.specs.Texts.{spelled}
 use Rattle.pattern.specs.declared.refusal.ReadFault.{ReadFault}
 use Rattle.pattern.specs.declared.refusal.ReadRefusal.the-variants.{Byte}
@@ -59,11 +60,24 @@ Found text place (Some t) = Is-token text place place (t .0) (t .1)
 
 -- no token is left, or here is the first one, or a byte that no pattern has stands first
 abbrev pub Next : List ℕ → ℕ → Result (Option Placed) ReadFault → ℕ → Type 0
-Next text from (Ok None) to = Cut from (drop from text) []
+Next text from (Ok None) to = Cut from (drop from text) [] × (to ≡ from)
 Next text from (Ok (Some t)) to = Is-token text from (t .place) (t .token) to
-Next text from (Err f) to = Is-wrong text from (f .place) × (f .refusal ≡ Byte)
+Next text from (Err f) to = Is-wrong text from (f .place) × (f .refusal ≡ Byte) × (to ≡ from)
+
+-- a symbol that is written with letters
+abbrev pub Lettered : Symbol → Type 0
+Lettered (symbol.Name k) = Unit {0}
+Lettered symbol.Seq = Unit {0}
+Lettered symbol.Open = ⊥
+Lettered symbol.Close = ⊥
+Lettered symbol.Comma = ⊥
+Lettered symbol.Plus = ⊥
 
 -- the symbol that a token is, or none if it is an unknown word
 abbrev pub Symbolic : Token → Option Symbol → Type 0
-Symbolic t None = Worded t → Unknown (bytes t)
-Symbolic t (Some x) = spelled x ≡ bytes t
+Symbolic (Word w) None = (x : Symbol) → Lettered x → spelled x ≡ w .now → ⊥
+Symbolic (Word w) (Some x) = Lettered x × (spelled x ≡ w .now)
+Symbolic Open r = r ≡ Some symbol.Open
+Symbolic Close r = r ≡ Some symbol.Close
+Symbolic Comma r = r ≡ Some symbol.Comma
+Symbolic Plus r = r ≡ Some symbol.Plus

@@ -11,8 +11,8 @@ ghost use Rattle.pattern.specs.Compiled.{Marked, Marked-step, Has-type, Has-st
 ghost use Rattle.grammar.specs.Trees.{part, Tree};
 ghost use Rattle.pattern.specs.Nodes.{trees};
 ghost use Rattle.pattern.specs.Patterns.{tree};
-use crate::pattern::Pattern;
 use crate::node::Node;
+use crate::pattern::Pattern;
 use crate::template::Span;
 use crate::template::Steps;
 use crate::template::Template;
@@ -53,13 +53,21 @@ impl Steps {
     {
         if end == 0 {
             let none = EventType::Test;
-            return Span { start: none, end: none, from: 0 };
+            return Span {
+                start: none,
+                end: none,
+                from: 0,
+            };
         }
         let last = end - 1;
         match nodes[last] {
             Node::Name(kind) => {
                 self.add_type(kind);
-                Span { start: kind, end: kind, from: last }
+                Span {
+                    start: kind,
+                    end: kind,
+                    from: last,
+                }
             }
             Node::Plus => {
                 let span = self.add_part(nodes, last);
@@ -70,7 +78,11 @@ impl Steps {
                 let right = self.add_part(nodes, last);
                 let left = self.add_part(nodes, right.from);
                 self.add_step(left.end, right.start);
-                Span { start: left.start, end: right.end, from: left.from }
+                Span {
+                    start: left.start,
+                    end: right.end,
+                    from: left.from,
+                }
             }
         }
     }

@@ -24,6 +24,7 @@ none : (c : In-rest) → Cut (c .loop-placed .tokens .at) (drop (c .loop-placed 
 none c =
     subst (λ r. Next (c .args .text .now) (c .loop-placed .tokens .at) (Ok r) (c .next .last .self .at)) (c .in-rest .is)
     (subst (λ s. Next s (c .loop-placed .tokens .at) (Ok (c .in-Continue-placed .field-0)) (c .next .last .self .at)) (c .loop-placed .inv .0) (c .in-Continue-placed .ensures tt .next))
+    .0
 
 pub loop-placed-holds : need.loop-placed-holds
 loop-placed-holds c =

@@ -1,6 +1,6 @@
 use mathlib.Core.Path.{refl}
 use Rattle.grammar.proofs.Paths.{words-are-paths}
-use Rattle.grammar.proofs.template_decides_words.Needs as need
+use Rattle.grammar.proofs.words.template_decides_words.Needs as need
 
 -- src/lib.rt:18:1
 pub returns : need.returns

@@ -1,4 +1,4 @@
-use Rattle.grammar.proofs.one_tree.Needs as need
+use Rattle.grammar.proofs.unambiguous.one_tree.Needs as need
 use Rattle.grammar.proofs.Machine.{one-tree}
 use mathlib.Core.Path.{refl}
 
