@@ -10,7 +10,7 @@ use Rattle.pattern.specs.Stacks.{held}
 pub held-length : {X : Type 0} (items : List X) (len : ℕ) → len ≤ length items → length (held items len) ≡ len
 held-length items len h = length-reverse (take len items) ∙ length-take-le len items h
 
-last-first : {X : Type 0} (xs : List X) (x : X) → reverse (xs ++ x ∷ []) ≡ x ∷ reverse xs
+pub last-first : {X : Type 0} (xs : List X) (x : X) → reverse (xs ++ x ∷ []) ≡ x ∷ reverse xs
 last-first xs x = reverse-append xs (x ∷ [])
 
 pub held-push : {X : Type 0} (items : List X) (len : ℕ) (x : X) → len < length items → held (set items len x) (len + 1) ≡ x ∷ held items len

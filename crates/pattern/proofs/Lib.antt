@@ -1,5 +1,6 @@
 pub mod Compiling
 pub mod Cutting
+pub mod Drafting
 pub mod Held
 pub mod Holding
 pub mod Marking

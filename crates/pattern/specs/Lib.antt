@@ -2,7 +2,9 @@ pub mod Patterns
 pub mod Reading
 pub mod Refusals
 pub mod Compiled
+pub mod Drafts
 pub mod Nodes
 pub mod Parsing
 pub mod Stacks
 pub mod Tokens
+pub mod Writing

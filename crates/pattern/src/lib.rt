@@ -1,6 +1,7 @@
 //! Patterns: read from a text, written back, and compiled to a template.
 mod accept;
 mod compile;
+mod draft;
 mod node;
 mod parser;
 pub mod pattern;
@@ -10,3 +11,4 @@ pub mod scan;
 mod stack;
 pub mod template;
 pub mod token;
+mod write;
