@@ -44,7 +44,7 @@ mod tests {
     use pattern::pattern::Pattern;
     use std::test::*;
 
-    /// What a text of one byte must be refused with: 4 at the end where it begins a pattern.
+    // What a text of one byte must be refused with: 4 at the end where it begins a pattern.
     fn expected(byte: u8) -> (u8, usize) {
         match byte {
             b' ' | b'(' => (4, 1),
