@@ -1,4 +1,7 @@
-//! The ten types of event that a lift's unit logs: their codes and their names.
+//! The events that a lift's unit logs, and their ten types: codes and names.
+pub mod event;
+
+pub use event::Event;
 ghost use mathlib.Core.Path.{_≡_};
 ghost use Prim.Native.Nat.{_<_};
 ghost use Rattle.std.specs.Options.{Cases as BySome};
@@ -19,7 +22,7 @@ pub enum EventType {
 }
 
 impl EventType {
-    /// Every type, by rising code.
+    /// Every type.
     pub const ALL: [EventType; 10] = [
         EventType::Test,
         EventType::Miss,

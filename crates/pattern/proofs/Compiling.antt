@@ -14,7 +14,7 @@ use Rattle.grammar.proofs.Paths.{in-left, in-right, words-are-paths}
 use Rattle.pattern.specs.declared.node.Node.{Node}
 use Rattle.pattern.specs.declared.node.Node.the-variants.{Name, Plus, Pair, More}
 use Rattle.pattern.specs.declared.template.Span.{Span}
-use Rattle.pattern.specs.declared.template.Steps.{Steps}
+use Rattle.pattern.specs.declared.template.Marks.{Marks}
 use Rattle.pattern.specs.declared.template.Template.{Template}
 use Rattle.pattern.specs.Compiled.{Marked, Marked-step, Has-step, Named, Added, Template-of, Decides-words}
 use Rattle.pattern.specs.Nodes.{lengthened, repeat-last, join-last, trees, last-of}
@@ -22,20 +22,20 @@ use Rattle.pattern.proofs.Holding.{held-pop}
 use Rattle.pattern.proofs.Stepping.{in-either, only-one}
 
 -- what a part added, at any list of parts that is not empty
-Added-at : List Node → Steps → Steps → Span → List (Tree part) → Type 0
+Added-at : List Node → Marks → Marks → Span → List (Tree part) → Type 0
 Added-at nodes s s′ r [] = Unit {0}
 Added-at nodes s s′ r (t ∷ rest) = Added nodes s s′ t rest r
 
 -- the premise and the claim of a part whose nodes end somewhere
-abbrev pub Adds : List Node → Steps → Steps → Span → List Node → Type 0
+abbrev pub Adds : List Node → Marks → Marks → Span → List Node → Type 0
 Adds nodes s s′ r ns = (t : Tree part) (rest : List (Tree part)) → trees ns ≡ t ∷ rest → Added nodes s s′ t rest r
 
 -- to know it of the parts as they are is to know it of what they are equal to
-known : (nodes : List Node) (s s′ : Steps) (r : Span) (ts : List (Tree part)) → Added-at nodes s s′ r ts → (t : Tree part) (rest : List (Tree part)) → ts ≡ t ∷ rest → Added nodes s s′ t rest r
+known : (nodes : List Node) (s s′ : Marks) (r : Span) (ts : List (Tree part)) → Added-at nodes s s′ r ts → (t : Tree part) (rest : List (Tree part)) → ts ≡ t ∷ rest → Added nodes s s′ t rest r
 unfolding Added-at
 known nodes s s′ r ts a t rest e = subst (Added-at nodes s s′ r) e a
 
-pub adds-name : (nodes : List Node) (s s′ : Steps) (k : EventType) (from : ℕ) → ((a : ℕ) → Marked (s′ .types) a ↔ (Marked (s .types) a ⊎ (a ≡ code-of k))) → s′ .steps ≡ s .steps → Adds nodes s s′ (record { start = k; end = k; from = from }) (Name k ∷ reverse (take from nodes))
+pub adds-name : (nodes : List Node) (s s′ : Marks) (k : EventType) (from : ℕ) → ((a : ℕ) → Marked (s′ .types) a ↔ (Marked (s .types) a ⊎ (a ≡ code-of k))) → s′ .steps ≡ s .steps → Adds nodes s s′ (record { start = k; end = k; from = from }) (Name k ∷ reverse (take from nodes))
 unfolding Added-at
 adds-name nodes s s′ k from types same =
     known nodes s s′ (record { start = k; end = k; from = from }) (name k ∷ trees (reverse (take from nodes))) (record {
@@ -49,7 +49,7 @@ adds-name nodes s s′ k from types same =
       steps = λ a b. (λ m. inl (subst (λ l. Marked-step l a b) same m), ⊎-elim (λ l. subst (λ l. Marked-step l a b) (sym same) l) (λ n. absurd n));
     })
 
-module _ (nodes : List Node) (s s₁ s₂ : Steps) (r : Span) (ns : List Node) (old : Adds nodes s s₁ r ns) where
+module _ (nodes : List Node) (s s₁ s₂ : Marks) (r : Span) (ns : List Node) (old : Adds nodes s s₁ r ns) where
   pub adds-plus : ((a b : ℕ) → Marked-step (s₂ .steps) a b ↔ (Marked-step (s₁ .steps) a b ⊎ ((a ≡ code-of (r .end)) × (b ≡ code-of (r .start))))) → s₂ .types ≡ s₁ .types → Adds nodes s s₂ r (Plus ∷ ns)
   unfolding Added-at
   adds-plus steps same = known nodes s s₂ r (repeat-last (trees ns)) (go (trees ns) refl)
@@ -102,7 +102,7 @@ longer = record { starts = starts; ends = ends; all-names = all-names; all-steps
     all-steps (plus t) u a b = (λ q. q, λ q. q)
     all-steps (seq ts) u a b = (λ q. q, λ q. q)
 
-module _ (f : Tree part → Tree part → Tree part) (joins : Joins f) (nodes : List Node) (s s₁ s₂ s₃ : Steps) (right left : Span) (ns : List Node) (old-right : Adds nodes s s₁ right ns) (old-left : Adds nodes s₁ s₂ left (reverse (take (right .from) nodes))) where
+module _ (f : Tree part → Tree part → Tree part) (joins : Joins f) (nodes : List Node) (s s₁ s₂ s₃ : Marks) (right left : Span) (ns : List Node) (old-right : Adds nodes s s₁ right ns) (old-left : Adds nodes s₁ s₂ left (reverse (take (right .from) nodes))) where
   pub adds-join : ((a b : ℕ) → Marked-step (s₃ .steps) a b ↔ (Marked-step (s₂ .steps) a b ⊎ ((a ≡ code-of (left .end)) × (b ≡ code-of (right .start))))) → s₃ .types ≡ s₂ .types → (t : Tree part) (rest : List (Tree part)) → join-last f (trees ns) ≡ t ∷ rest → Added nodes s s₃ t rest (record { start = left .start; end = right .end; from = left .from })
   unfolding Added-at
   adds-join steps same = known nodes s s₃ r (join-last f (trees ns)) (go (trees ns) refl)
@@ -141,7 +141,7 @@ only-tree (t ∷ []) e = refl
 only-tree (t ∷ u ∷ ts) e = absurd (omega arith)
 
 -- from blank marks on, a part's marks are a template's
-pub template-from : (nodes : List Node) (s s′ : Steps) (t : Tree part) (rest : List (Tree part)) (r : Span) → ((a : ℕ) → Marked (s .types) a → ⊥) → ((a b : ℕ) → Marked-step (s .steps) a b → ⊥) → Added nodes s s′ t rest r → Template-of t (record { start = r .start; end = r .end; marks = s′ })
+pub template-from : (nodes : List Node) (s s′ : Marks) (t : Tree part) (rest : List (Tree part)) (r : Span) → ((a : ℕ) → Marked (s .types) a → ⊥) → ((a b : ℕ) → Marked-step (s .steps) a b → ⊥) → Added nodes s s′ t rest r → Template-of t (record { start = r .start; end = r .end; marks = s′ })
 template-from nodes s s′ t rest r no-types no-steps added = record {
   starts = added .starts;
   ends = added .ends;

@@ -1,15 +1,15 @@
 -- How a text's first stretch is cut off.
 use mathlib.Core.Path.{_≡_, refl, sym, ap, subst, _∙_}
 use mathlib.Core.List.{List, [], _∷_, _++_}
-use mathlib.Core.Logic.{⊎-elim}
+use mathlib.Core.Logic.{_⊎_, inl, inr, ⊎-elim}
 use Prim.Native.Nat.{ℕ, suc, _+_, _-_, _≤_, _<_}
 use native.Mathlib.Numerals.{add-one}
 use native.Mathlib.Omega.{arith}
 use lib.ListN.{length, take, drop, getD, length-drop, take-append-drop}
 use Rattle.std.specs.Holes.{between}
 use Rattle.std.proofs.shelf.Lists.{drop-more, drop-drop, length-take-le, drop-all}
-use Rattle.std.proofs.shelf.Edits.{between-more}
-use Rattle.std.proofs.shelf.Tests.{cases-lt}
+use Rattle.std.proofs.shelf.Edits.{between-more, length-between}
+use Rattle.std.proofs.shelf.Tests.{cases-lt, cases-eq}
 use Rattle.events.specs.declared.EventType.{EventType}
 use Rattle.events.specs.declared.EventType.the-variants.{Test, Miss, Drop, Back, Batt, Mains, Call, Talk, Done, Visit}
 use Rattle.events.specs.Types.{name-of}
@@ -54,18 +54,40 @@ cut-run text i j h k all other ss c =
     subst (λ bs. Cut i bs (at i (between i j text) ∷ ss)) whole
     (run-of i (between i j text) (drop j text) ss (omega (arith, long)) all other (subst (λ n. Cut n (drop j text) ss) (omega (arith, long)) c))
 
+-- a letter before what is no letter
+alone : (p b : ℕ) (bs : List ℕ) (ss : List Stretch) → Letter b → Other-first bs → Cut (suc p) bs ss → (ts : List Stretch) × Cut p (b ∷ bs) ts
+alone p b bs ss l other c = (at p (b ∷ []) ∷ ss, run {w = []} (l, tt) other (subst (λ n. Cut n bs ss) (omega arith) c))
+
+-- a letter before any text
+one-letter : (p b : ℕ) {bs : List ℕ} {ss : List Stretch} → Letter b → Cut (suc p) bs ss → (ts : List Stretch) × Cut p (b ∷ bs) ts
+one-letter p b l end = alone p b [] [] l tt end
+one-letter p b l (space {bs = bs} {ss = ss} c) = alone p b (32 ∷ bs) ss l (λ h. omega arith) (space c)
+one-letter p b l (run {b = a} {w = w} {bs = bs} {ss = ss} all other c) = (at p (b ∷ a ∷ w) ∷ ss, run {w = a ∷ w} (l, all) other (subst (λ n. Cut n bs ss) (omega arith) c))
+one-letter p b l (single {b = a} {bs = bs} {ss = ss} other solid c) = alone p b (a ∷ bs) (at (suc p) (a ∷ []) ∷ ss) l other (single other solid c)
+
+letter-or-not : (b : ℕ) → Letter b ⊎ (Letter b → ⊥)
+letter-or-not b = ⊎-elim (λ lt. inr (λ l. omega arith)) (λ ge. ⊎-elim (λ lt. inr (λ l. omega arith)) (λ le. inl (ge, le)) (cases-lt 90 b)) (cases-lt b 65)
+
+pub cut-all : (p : ℕ) (bs : List ℕ) → (ss : List Stretch) × Cut p bs ss
+cut-all p [] = ([], end)
+cut-all p (b ∷ bs) =
+    let rest = cut-all (suc p) bs in
+    ⊎-elim (λ l. one-letter p b l (rest .1))
+    (λ other. ⊎-elim (λ e. (rest .0, subst (λ x. Cut p (x ∷ bs) (rest .0)) (sym e) (space (rest .1)))) (λ solid. (at p (b ∷ []) ∷ rest .0, single other solid (rest .1))) (cases-eq b 32))
+    (letter-or-not b)
+
 -- spaces in front do not matter
 pub first-behind : (text : List ℕ) (from place : ℕ) (w : List ℕ) (to : ℕ) → from ≤ place → ((ss : List Stretch) → Cut place (drop place text) ss → Cut from (drop from text) ss) → First-is text place place w to → First-is text from place w to
-first-behind text from place w to h skip f = record { inside = f .inside; ahead = h; on = f .on; within = f .within; cut = λ ss c. skip (at place w ∷ ss) (f .cut ss c) }
+first-behind text from place w to h skip f = record { inside = f .inside; ahead = h; on = f .on; ends = f .ends; within = f .within; rest = f .rest; cut = λ ss c. skip (at place w ∷ ss) (f .cut ss c) }
 
 pub none-left : (text : List ℕ) (i : ℕ) → length text ≤ i → Cut i (drop i text) []
 none-left text i h = subst (λ bs. Cut i bs []) (sym (drop-all i text h)) end
 
 pub word-first : (text : List ℕ) (i j : ℕ) → i < j → j ≤ length text → Letters (between i j text) → Other-first (drop j text) → First-is text i i (between i j text) j
-word-first text i j h k all other = record { inside = omega arith; ahead = omega arith; on = h; within = k; cut = cut-run text i j h k all other }
+word-first text i j h k all other = record { inside = omega arith; ahead = omega arith; on = h; ends = omega (arith, length-between text i j k); within = k; rest = cut-all j (drop j text); cut = cut-run text i j h k all other }
 
 pub single-first : (text : List ℕ) (i : ℕ) → i < length text → (Letter (getD text i 0) → ⊥) → (getD text i 0 ≡ 32 → ⊥) → First-is text i i (getD text i 0 ∷ []) (suc i)
-single-first text i h other solid = record { inside = h; ahead = omega arith; on = omega arith; within = h; cut = cut-single text i h other solid }
+single-first text i h other solid = record { inside = h; ahead = omega arith; on = omega arith; ends = omega arith; within = h; rest = cut-all (suc i) (drop (suc i) text); cut = cut-single text i h other solid }
 
 pub sign-first : (text : List ℕ) (i b : ℕ) → i < length text → getD text i 0 ≡ b → (Letter b → ⊥) → (getD text i 0 ≡ 32 → ⊥) → First-is text i i (b ∷ []) (i + 1)
 sign-first text i b h is other solid =

@@ -1,3 +1,4 @@
+pub mod Acceptance
 pub mod Compiling
 pub mod Cutting
 pub mod Drafting

@@ -18,6 +18,7 @@ use Rattle.grammar.specs.Limits.{opened}
 use Rattle.grammar.specs.Texts.{spelled}
 use Rattle.grammar.proofs.Machine.{one-tree}
 use Rattle.pattern.specs.declared.refusal.ReadRefusal.{ReadRefusal}
+use Rattle.pattern.specs.Refusals.{number-of}
 use Rattle.pattern.specs.Reading.{Letter, Letters, Other-first, Stretch, at, Cut, end, space, run, single, Fresh, Passes, Stops, byte, word, grammar, depth, repeat, Outcome, accepted, refused, Leads-to, whole, broken-off, next, stop, Reads, bad-length, by-stretches}
 
 -- No two tokens are spelled alike.
@@ -158,7 +159,7 @@ leads-one {n} {p = o} (next {xs = xs} {ss = ss} x a on) (next y b on′) =
     leads-one on (alike (λ z. Leads-to n (xs ++ z ∷ []) ss o) y x (b .known) (a .known) on′)
 leads-one (next {xs = xs} x a on) (stop b) = absurd (passes-stops xs a b)
 leads-one (stop {xs = xs} a) (next y b on) = absurd (passes-stops xs b a)
-leads-one (stop {xs = xs} {p = p} a) (stop b) = ap (λ r. refused r p) (one-refusal xs a b)
+leads-one (stop {xs = xs} {p = p} a) (stop b) = ap (λ r. refused (number-of r) p) (one-refusal xs a b)
 
 pub one-outcome : (text : List ℕ) (o p : Outcome) → Reads text o → Reads text p → o ≡ p
 one-outcome text o p (bad-length wrong) (bad-length wrong′) = refl

@@ -29,30 +29,9 @@ use Rattle.pattern.specs.declared.token.Token.the-variants as token
 use Rattle.pattern.specs.Nodes.{trees, last-of, tree-of}
 use Rattle.pattern.specs.Parsing.{View, Verdict, view, begun, verdict, verdict-at, is-whole-at, is-whole, Stopped, by-word, by-verdict}
 use Rattle.pattern.specs.Reading.{Letter, Letters, Other-first, Stretch, at, Cut, end, space, run as run-of, single, Unknown, Passes, Stops, byte, word, grammar, depth, repeat, Outcome, accepted, refused, Leads-to, whole, broken-off, next, stop, Reads, by-stretches}
+use Rattle.pattern.specs.Refusals.{number-of}
 use Rattle.pattern.specs.Tokens.{bytes, Worded, First-is, Is-token, Is-wrong}
 use Rattle.pattern.proofs.Stepping.{bracket, mode-of, waiting, ready, Kept, Gone, Stepped, stepped}
-
--- a letter before what is no letter
-alone : (p b : ℕ) (bs : List ℕ) (ss : List Stretch) → Letter b → Other-first bs → Cut (suc p) bs ss → (ts : List Stretch) × Cut p (b ∷ bs) ts
-alone p b bs ss l other c = (at p (b ∷ []) ∷ ss, run-of {w = []} (l, tt) other (subst (λ n. Cut n bs ss) (omega arith) c))
-
--- a letter before any text
-one-letter : (p b : ℕ) {bs : List ℕ} {ss : List Stretch} → Letter b → Cut (suc p) bs ss → (ts : List Stretch) × Cut p (b ∷ bs) ts
-one-letter p b l end = alone p b [] [] l tt end
-one-letter p b l (space {bs = bs} {ss = ss} c) = alone p b (32 ∷ bs) ss l (λ h. omega arith) (space c)
-one-letter p b l (run-of {b = a} {w = w} {bs = bs} {ss = ss} all other c) = (at p (b ∷ a ∷ w) ∷ ss, run-of {w = a ∷ w} (l, all) other (subst (λ n. Cut n bs ss) (omega arith) c))
-one-letter p b l (single {b = a} {bs = bs} {ss = ss} other solid c) = alone p b (a ∷ bs) (at (suc p) (a ∷ []) ∷ ss) l other (single other solid c)
-
-letter-or-not : (b : ℕ) → Letter b ⊎ (Letter b → ⊥)
-letter-or-not b = ⊎-elim (λ lt. inr (λ l. omega arith)) (λ ge. ⊎-elim (λ lt. inr (λ l. omega arith)) (λ le. inl (ge, le)) (cases-lt 90 b)) (cases-lt b 65)
-
-pub cut-all : (p : ℕ) (bs : List ℕ) → (ss : List Stretch) × Cut p bs ss
-cut-all p [] = ([], end)
-cut-all p (b ∷ bs) =
-    let rest = cut-all (suc p) bs in
-    ⊎-elim (λ l. one-letter p b l (rest .1))
-    (λ other. ⊎-elim (λ e. (rest .0, subst (λ x. Cut p (x ∷ bs) (rest .0)) (sym e) (space (rest .1)))) (λ solid. (at p (b ∷ []) ∷ rest .0, single other solid (rest .1))) (cases-eq b 32))
-    (letter-or-not b)
 
 -- the parser has taken some tokens of the text, and whatever the rest leads to, the text reads so
 pub record Sofar (text : List ℕ) (from : ℕ) (p : Parser) : Type 0 where
@@ -73,12 +52,12 @@ module _ (text : List ℕ) (from : ℕ) (p : Parser) (now : Sofar text from p) w
       subst (Stepped (now .so-far) x) (sym same) (stepped (now .so-far) (now .in-mode) (now .in-frames) (view p .nodes) (now .kept) x)
 
   -- the first stretch stops the reading
-  stopped : (place : ℕ) (w : List ℕ) (to : ℕ) (r : ReadRefusal) → First-is text from place w to → Stops (now .so-far) w r → Reads text (refused r place)
+  stopped : (place : ℕ) (w : List ℕ) (to : ℕ) (r : ReadRefusal) → First-is text from place w to → Stops (now .so-far) w r → Reads text (refused (number-of r) place)
   stopped place w to r f s =
-      let behind = cut-all to (drop to text) in
-      now .rest (at place w ∷ behind .0) (refused r place) (f .cut (behind .0) (behind .1)) (stop s)
+      let behind = f .rest in
+      now .rest (at place w ∷ behind .0) (refused (number-of r) place) (f .cut (behind .0) (behind .1)) (stop s)
 
-  pub wrong-byte : (place : ℕ) → Is-wrong text from place → Reads text (refused refusal.Byte place)
+  pub wrong-byte : (place : ℕ) → Is-wrong text from place → Reads text (refused (number-of refusal.Byte) place)
   wrong-byte place h = stopped place _ _ _ (h .first) (byte (h .other) (h .unknown))
 
   -- the first token passes
@@ -114,12 +93,12 @@ stops-by xs w x refusal.Depth e s = depth x e (s .0) (s .1)
 stops-by xs w x refusal.Repeat e s = repeat x e (s .0) (s .1) (s .2)
 
 -- the first token fails a question
-pub one-stop : (text : List ℕ) (from : ℕ) (p : Parser) (now : Sofar text from p) (t : Placed) (to : ℕ) (f : ReadFault) → Is-token text from (t .place) (t .token) to → Stopped (view p) t f → Reads text (refused (f .refusal) (f .place))
+pub one-stop : (text : List ℕ) (from : ℕ) (p : Parser) (now : Sofar text from p) (t : Placed) (to : ℕ) (f : ReadFault) → Is-token text from (t .place) (t .token) to → Stopped (view p) t f → Reads text (refused (number-of (f .refusal)) (f .place))
 one-stop text from p now t to f is (by-word u r q) =
-    subst (λ n. Reads text (refused (f .refusal) n)) (sym q)
-    (subst (λ k. Reads text (refused k (t .place))) (sym r) (stopped text from p now (t .place) (bytes (t .token)) to refusal.Word (is .first) (word (lettered (t .token) (is .letters) (u (is .letters))) (u (is .letters)))))
+    subst (λ n. Reads text (refused (number-of (f .refusal)) n)) (sym q)
+    (subst (λ k. Reads text (refused (number-of k) (t .place))) (sym r) (stopped text from p now (t .place) (bytes (t .token)) to refusal.Word (is .first) (word (lettered (t .token) (is .letters) (u (is .letters))) (u (is .letters)))))
 one-stop text from p now t to f is (by-verdict x e v q) =
-    subst (λ n. Reads text (refused (f .refusal) n)) (sym q)
+    subst (λ n. Reads text (refused (number-of (f .refusal)) n)) (sym q)
     (stopped text from p now (t .place) (bytes (t .token)) to (f .refusal) (is .first) (stops-by (now .so-far) (bytes (t .token)) x (f .refusal) e (subst (Stepped (now .so-far) x) v (judged text from p now x))))
 
 -- the tree of a live machine
@@ -162,7 +141,7 @@ module _ (text : List ℕ) (from : ℕ) (p : Parser) (now : Sofar text from p) (
   pub one-part : is-whole (view p) ≡ true → length (trees (view p .nodes)) ≡ 1
   one-part e = ap length (now .kept .holds) ∙ whole-one (now .in-mode) (now .in-frames) (sym asked ∙ e)
 
-  pub cut-short : is-whole (view p) ≡ false → Reads text (refused refusal.Grammar (length text))
+  pub cut-short : is-whole (view p) ≡ false → Reads text (refused (number-of refusal.Grammar) (length text))
   unfolding result-of
   cut-short e = now .rest [] _ none (broken-off λ t w.
       let s = complete w in

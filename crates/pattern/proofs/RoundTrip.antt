@@ -1,6 +1,6 @@
 -- A valid pattern's written text is read as that pattern.
-use mathlib.Core.List.{List, [], _∷_, _++_, append-assoc, append-nil}
-use mathlib.Core.Path.{_≡_, refl, sym, ap, subst, _∙_}
+use mathlib.Core.List.{List, [], _∷_, _++_, append-nil}
+use mathlib.Core.Path.{_≡_, refl, sym, subst}
 use Prim.Native.Nat.{ℕ, _+_, _≤_}
 use native.Mathlib.Numerals.{add-one}
 use native.Mathlib.Omega.{arith}
@@ -10,14 +10,14 @@ use Rattle.events.specs.declared.EventType.the-variants.{Test, Miss, Drop, Back
 use Rattle.events.specs.Types.{name-of}
 use Rattle.grammar.specs.declared.Symbol.{Symbol}
 use Rattle.grammar.specs.declared.Symbol.the-variants.{Name, Seq, Open, Close, Comma, Plus}
-use Rattle.grammar.specs.Trees.{Level, part, Tree, name, plus, seq, here, Distinct}
-use Rattle.grammar.specs.Grammar.{Role, Derives, named, bracketed, in-order, plain, repeated, first-two, one-more, Writes}
+use Rattle.grammar.specs.Trees.{Level, part, Tree, name, plus, seq, Distinct}
+use Rattle.grammar.specs.Grammar.{Role, Derives, named, bracketed, in-order, plain, repeated, first-two, one-more}
 use Rattle.grammar.specs.Texts.{spelled, spelling, tokens, written}
-use Rattle.grammar.specs.Limits.{opened, deepest, named as names-among, Valid}
-use Rattle.grammar.proofs.Depths.{opened-below}
-use Rattle.grammar.proofs.Derivations.{names-among-append, spelling-append, same-names, tokens-derive}
-use Rattle.grammar.proofs.Paths.{apart}
-use Rattle.pattern.specs.Reading.{Letter, Letters, Other-first, Stretch, at, Cut, end, single, Fresh, Passes, accepted, Leads-to, whole, next, Reads, by-stretches}
+use Rattle.grammar.specs.Limits.{Valid}
+use Rattle.grammar.proofs.Derivations.{spelling-append, same-names, tokens-derive}
+use Rattle.pattern.specs.Accepting.{Spell, nothing, token}
+use Rattle.pattern.specs.Reading.{Letter, Letters, Other-first, Stretch, at, Cut, end, single, accepted, Reads}
+use Rattle.pattern.proofs.Acceptance.{accepts-reads}
 use Rattle.pattern.proofs.Cutting.{run-of, name-long}
 
 name-letters : (k : EventType) → Letters (name-of k)
@@ -86,6 +86,10 @@ abbrev placed : ℕ → List Symbol → List Stretch
 placed p [] = []
 placed p (x ∷ xs) = at p (spelled x) ∷ placed (p + length (spelled x)) xs
 
+placed-spell : (p : ℕ) (xs : List Symbol) → Spell (placed p xs) xs
+placed-spell p [] = nothing
+placed-spell p (x ∷ xs) = token refl (placed-spell (p + length (spelled x)) xs)
+
 sign-other : (xs : List Symbol) → Sign-first xs → Other-first (spelling xs)
 sign-other [] h = tt
 sign-other (Name k ∷ xs) h = elim h [ ]
@@ -109,29 +113,6 @@ spelling-cut p (Close ∷ xs) a = sign-cut p 41 (spelling xs) (placed (p + 1) xs
 spelling-cut p (Comma ∷ xs) a = sign-cut p 44 (spelling xs) (placed (p + 1) xs) (λ l. omega arith) (λ e. omega arith) (spelling-cut (p + 1) xs a)
 spelling-cut p (Plus ∷ xs) a = sign-cut p 43 (spelling xs) (placed (p + 1) xs) (λ l. omega arith) (λ e. omega arith) (spelling-cut (p + 1) xs a)
 
--- No question says no along the tokens of a valid tree.
-
-fresh-before : (xs : List Symbol) (x : Symbol) (ys : List Symbol) → Distinct (names-among (xs ++ x ∷ ys)) → Fresh xs x
-fresh-before xs (Name k) ys d = λ i. apart (k ∷ names-among ys) i (subst Distinct (names-among-append xs (Name k ∷ ys)) d) here
-fresh-before xs Seq ys d = tt
-fresh-before xs Open ys d = tt
-fresh-before xs Close ys d = tt
-fresh-before xs Comma ys d = tt
-fresh-before xs Plus ys d = tt
-
-module _ (t : Tree part) (v : Valid t) (n : ℕ) where
-  leads-along : (xs ys : List Symbol) (p : ℕ) → xs ++ ys ≡ tokens t → Leads-to n xs (placed p ys) (accepted t)
-  leads-along xs [] p e = whole (subst (λ zs. Writes zs t) (sym e ∙ append-nil xs) (tokens-derive t))
-  leads-along xs (x ∷ ys) p e =
-      let all : (xs ++ x ∷ []) ++ ys ≡ tokens t = append-assoc xs (x ∷ []) ys ∙ e in
-      let passes : Passes xs (spelled x) x = record {
-        known = refl;
-        begins = (ys, t, subst (λ zs. Writes zs t) (sym all) (tokens-derive t));
-        shallow = omega (arith, v .shallow, subst (λ zs. opened 0 (xs ++ x ∷ []) ≤ deepest 0 zs) all (opened-below 0 (xs ++ x ∷ []) ys));
-        fresh = fresh-before xs x ys (subst Distinct (sym (ap names-among e ∙ same-names (tokens-derive t))) (v .once));
-      } in
-      next x passes (leads-along (xs ++ x ∷ []) ys (p + length (spelled x)) all)
-
 written-some : (t : Tree part) → 1 ≤ length (written t)
 written-some (name k) = simp append-nil (omega (arith, name-long k))
 written-some (plus t) = simp (spelling-append, length-append) (omega arith)
@@ -139,4 +120,15 @@ written-some (seq ts) = omega arith
 
 pub written-reads : (t : Tree part) → Valid t → Reads (written t) (accepted t)
 written-reads t v =
-    by-stretches (written-some t) (v .short) (spelling-cut 0 (tokens t) (derived-apart (tokens-derive t))) (leads-along t v (length (written t)) [] (tokens t) 0 refl)
+    let derived = tokens-derive t in
+    accepts-reads (written t) t (record {
+      stretches = placed 0 (tokens t);
+      tokens = tokens t;
+      some = written-some t;
+      short = v .short;
+      cut = spelling-cut 0 (tokens t) (derived-apart derived);
+      spell = placed-spell 0 (tokens t);
+      writes = derived;
+      shallow = v .shallow;
+      once = subst Distinct (sym (same-names derived)) (v .once);
+    })

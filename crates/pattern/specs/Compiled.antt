@@ -12,7 +12,7 @@ use Rattle.grammar.specs.Trees.{part, Tree, names, In}
 use Rattle.grammar.specs.Words.{Word}
 use Rattle.pattern.specs.declared.node.Node.{Node}
 use Rattle.pattern.specs.declared.template.Span.{Span}
-use Rattle.pattern.specs.declared.template.Steps.{Steps}
+use Rattle.pattern.specs.declared.template.Marks.{Marks}
 use Rattle.pattern.specs.declared.template.Template.{Template}
 use Rattle.pattern.specs.Nodes.{trees}
 
@@ -35,7 +35,7 @@ abbrev pub Has-step : Template → ℕ → ℕ → Type 0
 Has-step t a b = Marked-step (t .marks .steps) a b
 
 -- the nodes before r .from are those of the other parts, and the marks have gained those of the part t: a tool of the proof
-pub record Added (nodes : List Node) (s s′ : Steps) (t : Tree part) (rest : List (Tree part)) (r : Span) : Type 0 where
+pub record Added (nodes : List Node) (s s′ : Marks) (t : Tree part) (rest : List (Tree part)) (r : Span) : Type 0 where
   pub starts : code-of (r .start) ≡ start-of t
   pub ends : code-of (r .end) ≡ end-of t
   pub before : trees (reverse (take (r .from) nodes)) ≡ rest

@@ -1,6 +1,7 @@
 pub mod Patterns
 pub mod Reading
 pub mod Refusals
+pub mod Accepting
 pub mod Compiled
 pub mod Drafts
 pub mod Nodes

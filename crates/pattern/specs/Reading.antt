@@ -4,7 +4,6 @@ use mathlib.Core.List.{List, [], _∷_, _++_}
 use mathlib.Core.Path.{_≡_}
 use Prim.Native.Nat.{ℕ, suc, _+_, _≤_, _<_}
 use lib.ListN.{length}
-use Rattle.events.specs.declared.EventType.{EventType}
 use Rattle.grammar.specs.declared.Symbol.{Symbol}
 use Rattle.grammar.specs.declared.Symbol.the-variants.{Name, Seq, Open, Close, Comma, Plus}
 use Rattle.grammar.specs.Trees.{part, Tree, In}
@@ -13,6 +12,7 @@ use Rattle.grammar.specs.Texts.{spelled}
 use Rattle.grammar.specs.Limits.{opened, named}
 use Rattle.pattern.specs.declared.refusal.ReadRefusal.{ReadRefusal}
 use Rattle.pattern.specs.declared.refusal.ReadRefusal.the-variants.{Length, Byte, Word, Grammar, Depth, Repeat}
+use Rattle.pattern.specs.Refusals.{number-of}
 
 -- a byte from A to Z
 abbrev pub Letter : ℕ → Type 0
@@ -68,15 +68,16 @@ pub data Stops (xs : List Symbol) : List ℕ → ReadRefusal → Type 0 where
 
 pub data Outcome : Type 0 where
   accepted : Tree part → Outcome
-  refused : ReadRefusal → ℕ → Outcome
+  -- by number and place
+  refused : ℕ → ℕ → Outcome
 
 -- after the tokens xs, the stretches that are left lead to this outcome, in a text of n bytes
 pub data Leads-to (n : ℕ) : List Symbol → List Stretch → Outcome → Type 0 where
   whole : {xs : List Symbol} {t : Tree part} → Writes xs t → Leads-to n xs [] (accepted t)
-  broken-off : {xs : List Symbol} → ((t : Tree part) → Writes xs t → ⊥) → Leads-to n xs [] (refused Grammar n)
+  broken-off : {xs : List Symbol} → ((t : Tree part) → Writes xs t → ⊥) → Leads-to n xs [] (refused (number-of Grammar) n)
   next : {xs : List Symbol} {p : ℕ} {w : List ℕ} {ss : List Stretch} {o : Outcome} (x : Symbol) → Passes xs w x → Leads-to n (xs ++ x ∷ []) ss o → Leads-to n xs (at p w ∷ ss) o
-  stop : {xs : List Symbol} {p : ℕ} {w : List ℕ} {ss : List Stretch} {r : ReadRefusal} → Stops xs w r → Leads-to n xs (at p w ∷ ss) (refused r p)
+  stop : {xs : List Symbol} {p : ℕ} {w : List ℕ} {ss : List Stretch} {r : ReadRefusal} → Stops xs w r → Leads-to n xs (at p w ∷ ss) (refused (number-of r) p)
 
 pub data Reads (text : List ℕ) : Outcome → Type 0 where
-  bad-length : (1 ≤ length text → length text ≤ 250 → ⊥) → Reads text (refused Length 0)
+  bad-length : (1 ≤ length text → length text ≤ 250 → ⊥) → Reads text (refused (number-of Length) 0)
   by-stretches : {ss : List Stretch} {o : Outcome} → 1 ≤ length text → length text ≤ 250 → Cut 0 text ss → Leads-to (length text) [] ss o → Reads text o

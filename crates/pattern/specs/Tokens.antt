@@ -1,7 +1,7 @@
 -- What one call for the next token answers, by the stretches of the text that is left.
 use mathlib.Core.List.{List, [], _∷_}
 use mathlib.Core.Path.{_≡_}
-use Prim.Native.Nat.{ℕ, suc, _≤_, _<_}
+use Prim.Native.Nat.{ℕ, suc, _+_, _≤_, _<_}
 use lib.Chars.{codes}
 use lib.ListN.{length, drop, getD}
 use Rattle.std.specs.declared.option.Option.{Option}
@@ -39,7 +39,9 @@ pub record First-is (text : List ℕ) (from place : ℕ) (w : List ℕ) (to : �
   pub inside : place < length text
   pub ahead : from ≤ place
   pub on : place < to
+  pub ends : to ≡ place + length w
   pub within : to ≤ length text
+  pub rest : (ss : List Stretch) × Cut to (drop to text) ss
   pub cut : (ss : List Stretch) → Cut to (drop to text) ss → Cut from (drop from text) (at place w ∷ ss)
 
 -- a stretch that is this token

@@ -7,6 +7,7 @@ use lib.ListN.{length, drop}
 use Rattle.std.specs.declared.result.Result.{Result}
 use Rattle.std.specs.declared.result.Result.the-variants.{Ok, Err}
 use Rattle.pattern.specs.declared.refusal.WriteRefusal.{WriteRefusal}
+use Rattle.pattern.specs.Refusals.{write-number-of}
 
 -- the text stands in front of what was behind it
 pub record Placed-in (w before : List ℕ) (n : ℕ) (after : List ℕ) : Type 0 where
@@ -15,10 +16,11 @@ pub record Placed-in (w before : List ℕ) (n : ℕ) (after : List ℕ) : Type 0
   pub bytes : after ≡ w ++ drop (length w) before
 
 -- the bytes are too few, and stay
-pub record Too-few (w before after : List ℕ) : Type 0 where
+pub record Too-few (w before : List ℕ) (e : WriteRefusal) (after : List ℕ) : Type 0 where
+  pub number : write-number-of e ≡ 7
   pub room : length before < length w
   pub bytes : after ≡ before
 
 abbrev pub Written : List ℕ → List ℕ → Result ℕ WriteRefusal → List ℕ → Type 0
 Written w before (Ok n) after = Placed-in w before n after
-Written w before (Err e) after = Too-few w before after
+Written w before (Err e) after = Too-few w before e after

@@ -1,8 +1,6 @@
 //! What one token does to a parser.
 ghost use mathlib.Core.Path.{_≡_};
-ghost use mathlib.Core.List.{[], _∷_};
 ghost use Prim.Native.Nat.{_+_, _<_, _≤_};
-ghost use lib.ListN.{length};
 ghost use Rattle.pattern.specs.Parsing.{view, begun, is-name, has-name, opens, closes, parts, names-part, at-part, at-seq, at-atom, at-end, verdict, Follows};
 use crate::node::Node;
 use crate::parser::Bracket;
@@ -12,6 +10,9 @@ use crate::refusal::ReadRefusal;
 use crate::stack::Stack;
 use events::EventType;
 use grammar::Symbol;
+
+/// How many brackets may be open at once.
+const MOST_OPEN: usize = 16;
 
 impl Parser {
     pub fn new() -> Parser
@@ -25,16 +26,19 @@ impl Parser {
         }
     }
 
+    /// Opens a bracket, if it is not one too many.
     fn open(&mut self, bracket: Bracket) -> Result<(), ReadRefusal>
         ensures grown { λ _. ⌜ now (self .exit) .nodes .len ≤ now (self .entry) .nodes .len + 1 ⌝ }
         ensures verdict { λ r. ⌜ Follows (opens bracket (view (now (self .entry)) .brackets) (view (now (self .entry)) .nodes)) r (now (self .exit)) ⌝ }
     {
-        if self.brackets.len() >= 16 {
-            return Err(ReadRefusal::Depth);
+        match self.brackets.len() {
+            count if count < MOST_OPEN => {
+                self.brackets.push(bracket);
+                self.mode = Mode::Part;
+                Ok(())
+            }
+            _ => Err(ReadRefusal::Depth),
         }
-        self.brackets.push(bracket);
-        self.mode = Mode::Part;
-        Ok(())
     }
 
     fn close(&mut self) -> Result<(), ReadRefusal>
@@ -120,7 +124,7 @@ impl Parser {
         }
     }
 
-    fn at_atom(&mut self, symbol: Symbol) -> Result<(), ReadRefusal>
+    fn after_atom(&mut self, symbol: Symbol) -> Result<(), ReadRefusal>
         requires { ⌜ now self .nodes .len < 250 ⌝ }
         ensures grown { λ _. ⌜ now (self .exit) .nodes .len ≤ now (self .entry) .nodes .len + 1 ⌝ }
         ensures verdict { λ r. ⌜ Follows (at-atom (view (now (self .entry)) .brackets) (view (now (self .entry)) .nodes) symbol) r (now (self .exit)) ⌝ }
@@ -132,12 +136,12 @@ impl Parser {
                 Ok(())
             }
             Symbol::Name(_) | Symbol::Seq | Symbol::Open | Symbol::Close | Symbol::Comma => {
-                self.at_end(symbol)
+                self.after_part(symbol)
             }
         }
     }
 
-    fn at_end(&mut self, symbol: Symbol) -> Result<(), ReadRefusal>
+    fn after_part(&mut self, symbol: Symbol) -> Result<(), ReadRefusal>
         requires { ⌜ now self .nodes .len < 250 ⌝ }
         ensures grown { λ _. ⌜ now (self .exit) .nodes .len ≤ now (self .entry) .nodes .len + 1 ⌝ }
         ensures verdict { λ r. ⌜ Follows (at-end (view (now (self .entry)) .brackets) (view (now (self .entry)) .nodes) symbol) r (now (self .exit)) ⌝ }
@@ -160,8 +164,8 @@ impl Parser {
         match self.mode {
             Mode::Part => self.at_part(symbol),
             Mode::Seq => self.at_seq(symbol),
-            Mode::Atom => self.at_atom(symbol),
-            Mode::Repeated => self.at_end(symbol),
+            Mode::Atom => self.after_atom(symbol),
+            Mode::Repeated => self.after_part(symbol),
         }
     }
 }

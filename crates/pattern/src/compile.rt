@@ -1,5 +1,4 @@
 //! From a pattern to its template.
-ghost use mathlib.Core.Bool.{Bool};
 ghost use mathlib.Core.List.{List, _∷_, reverse};
 ghost use mathlib.Core.Logic.{_⊎_, _↔_};
 ghost use mathlib.Core.Path.{_≡_};
@@ -13,17 +12,17 @@ ghost use Rattle.pattern.specs.Nodes.{trees};
 ghost use Rattle.pattern.specs.Patterns.{tree};
 use crate::node::Node;
 use crate::pattern::Pattern;
+use crate::template::Marks;
 use crate::template::Span;
-use crate::template::Steps;
 use crate::template::Template;
 use events::EventType;
 
-impl Steps {
-    fn none() -> Steps
+impl Marks {
+    fn none() -> Marks
         ensures types { λ r. ⌜ ((a : ℕ) → Marked (r .types) a → ⊥) ⌝ }
         ensures steps { λ r. ⌜ ((a b : ℕ) → Marked-step (r .steps) a b → ⊥) ⌝ }
     {
-        Steps {
+        Marks {
             types: [false; 10],
             steps: [false; 100],
         }
@@ -52,10 +51,10 @@ impl Steps {
         ensures adds { λ r. ⌜ ((t : Tree part) (rest : List (Tree part)) → trees (reverse (take end (now (nodes .entry)))) ≡ t ∷ rest → Added (now (nodes .entry)) (now (self .entry)) (now (self .exit)) t rest r) ⌝ }
     {
         if end == 0 {
-            let none = EventType::Test;
+            let (start, end) = (EventType::Test, EventType::Test);
             return Span {
-                start: none,
-                end: none,
+                start,
+                end,
                 from: 0,
             };
         }
@@ -101,7 +100,7 @@ impl Pattern {
 fn compile(pattern: &Pattern) -> Template
     ensures { λ r. ⌜ Template-of (tree (now (pattern .entry))) r ⌝ }
 {
-    let mut marks = Steps::none();
+    let mut marks = Marks::none();
     let span = marks.add_part(&pattern.nodes, pattern.len);
     Template {
         start: span.start,

@@ -12,3 +12,9 @@ mod stack;
 pub mod template;
 pub mod token;
 mod write;
+
+pub use crate::pattern::Pattern;
+pub use crate::refusal::ReadFault;
+pub use crate::refusal::ReadRefusal;
+pub use crate::refusal::WriteRefusal;
+pub use crate::template::Template;

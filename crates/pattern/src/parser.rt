@@ -1,7 +1,6 @@
 //! From tokens to nodes, one token at a time.
 use crate::node::Node;
 use crate::stack::Stack;
-use events::EventType;
 
 /// What may come next.
 #[derive(Clone, Copy)]

@@ -7,7 +7,7 @@ ghost use Rattle.grammar.specs.Limits.{Valid};
 ghost use Rattle.grammar.specs.Trees.{name};
 ghost use Rattle.pattern.specs.Nodes.{trees, tree-of};
 ghost use Rattle.pattern.specs.Parsing.{view, is-whole, Took};
-ghost use Rattle.pattern.specs.Patterns.{tree, outcome, read-outcome};
+ghost use Rattle.pattern.specs.Patterns.{tree, outcome, read-outcome, Exactly};
 ghost use Rattle.pattern.specs.Reading.{Reads, Outcome};
 use crate::node::Node;
 use crate::parser::Mode;
@@ -91,6 +91,7 @@ impl Pattern {
     pub fn parse(text: &[u8]) -> Result<Pattern, ReadFault>
         ensures reads { λ r. ⌜ Reads (now (text .entry)) (outcome r) ⌝ }
         ensures only { λ r. ⌜ ((o : Outcome) → Reads (now (text .entry)) o → o ≡ outcome r) ⌝ }
+        ensures accepts { λ r. ⌜ Exactly (now (text .entry)) (outcome r) ⌝ }
     {
         parse_sized(text)
     }
@@ -99,6 +100,7 @@ impl Pattern {
     pub fn read(&mut self, text: &[u8]) -> Result<(), ReadFault>
         ensures reads { λ r. ⌜ Reads (now (text .entry)) (read-outcome r (now (self .exit))) ⌝ }
         ensures only { λ r. ⌜ ((o : Outcome) → Reads (now (text .entry)) o → o ≡ read-outcome r (now (self .exit))) ⌝ }
+        ensures accepts { λ r. ⌜ Exactly (now (text .entry)) (read-outcome r (now (self .exit))) ⌝ }
         ensures refused { λ r. ⌜ Cases r (λ _. Unit {0}) (λ _. now (self .exit) ≡ now (self .entry)) ⌝ }
     {
         *self = Pattern::parse(text)?;

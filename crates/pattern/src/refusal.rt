@@ -35,11 +35,11 @@ impl ReadRefusal {
     }
 }
 
-/// A refused text: why, and at which byte.
+/// A refused text: why, and where.
 #[derive(Clone, Copy, Debug, PartialEq, Eq)]
 pub struct ReadFault {
     pub refusal: ReadRefusal,
-    /// The count of bytes before the token or the wrong byte.
+    /// The count of bytes before the token or the wrong byte: the text's length at its end, 0 for `Length`.
     pub place: usize,
 }
 

@@ -3,7 +3,7 @@ use events::EventType;
 
 /// Which types a pattern names, and between which of them it has a step.
 #[derive(Clone, Copy)]
-pub struct Steps {
+pub(crate) struct Marks {
     pub(crate) types: [bool; 10],
     pub(crate) steps: [bool; 100],
 }
@@ -21,5 +21,5 @@ pub(crate) struct Span {
 pub struct Template {
     pub(crate) start: EventType,
     pub(crate) end: EventType,
-    pub(crate) marks: Steps,
+    pub(crate) marks: Marks,
 }

@@ -7,6 +7,7 @@ use Rattle.std.specs.declared.result.Result.the-variants.{Ok}
 use Rattle.pattern.specs.Nodes.{tree-of}
 use Rattle.pattern.specs.Parsing.{view}
 use Rattle.pattern.specs.Reading.{Cut, Reads, accepted, refused}
+use Rattle.pattern.specs.Refusals.{number-of}
 use Rattle.pattern.specs.Tokens.{Is-token, Is-wrong, Next}
 use Rattle.pattern.proofs.Parsed.{Sofar, begun-so, wrong-byte, one-more, one-stop, at-end, one-part, cut-short}
 use Rattle.pattern.proofs.Validity.{read-valid}
@@ -36,7 +37,7 @@ returns-in-Break-placed c =
     let p = err-from-errBy (c .from-residual .result) (c .from-residual .ensures .1) in
     let inv = c .loop-placed .inv in
     let wrong = c .in-Break-placed .ensures tt .next in
-    rw (p .1, p .2) (subst (λ r. Reads (c .args .text .now) (refused r (c .in-Break-placed .field-0 .0 .place))) (sym (wrong .1)) (wrong-byte (c .args .text .now) (c .loop-placed .tokens .at) (c .loop-placed .parser) (inv .2) _ (subst (λ s. Is-wrong s (c .loop-placed .tokens .at) (c .in-Break-placed .field-0 .0 .place)) (inv .0) (wrong .0))))
+    rw (p .1, p .2) (subst (λ r. Reads (c .args .text .now) (refused (number-of r) (c .in-Break-placed .field-0 .0 .place))) (sym (wrong .1)) (wrong-byte (c .args .text .now) (c .loop-placed .tokens .at) (c .loop-placed .parser) (inv .2) _ (subst (λ s. Is-wrong s (c .loop-placed .tokens .at) (c .in-Break-placed .field-0 .0 .place)) (inv .0) (wrong .0))))
 
 pub loop-placed-again : need.loop-placed-again
 loop-placed-again c =

@@ -8,7 +8,7 @@ use Rattle.pattern.proofs.draft.Draft.copy_to.Needs as need
 pub returns-then-out-n : need.returns-then-out-n
 returns-then-out-n c =
     let same = rest-of (c .args .self .now .bytes) (c .args .self .now .at) (omega arith) in
-    record { room = omega (arith, ap length same); bytes = refl }
+    record { number = refl; room = omega (arith, ap length same); bytes = refl }
 
 pub returns : need.returns
 returns c =

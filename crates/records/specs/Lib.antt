@@ -1,0 +1,7 @@
+pub mod Refusals
+pub mod Fields
+pub mod Formats
+pub mod Reading
+pub mod Raw
+pub mod Writing
+pub mod Theorems

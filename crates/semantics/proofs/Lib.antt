@@ -1,0 +1,13 @@
+pub mod Listings
+pub mod Flags
+pub mod Sums
+pub mod Valuing
+pub mod Shapes
+pub mod Testing
+pub mod Results
+pub mod Dropping
+pub mod Starts
+pub mod Fronts
+pub mod Times
+pub mod Lifts
+pub mod TwoKinds

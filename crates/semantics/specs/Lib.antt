@@ -1,0 +1,9 @@
+pub mod Refusals
+pub mod Windows
+pub mod Trends
+pub mod Recursion
+pub mod Histories
+pub mod Meaning
+pub mod Agreement
+pub mod Laws
+pub mod Theorems

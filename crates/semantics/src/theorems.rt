@@ -1,0 +1,33 @@
+//! What holds of trends and results, for any weight kind and any follow rule. Each function answers 0.
+ghost use mathlib.Core.Path.{_≡_};
+ghost use Rattle.semantics.specs.Theorems.{One-result, Recursion-is-result, Irrelevant-dropped, Results-carried};
+use rules::Follow;
+use weights::Weight;
+
+/// The trends of a window and lift can be listed, and however they are, they come to one result.
+pub fn one_result<W: Weight, R: Follow>() -> u8
+    ensures { λ r. ⌜ (r ≡ 0) × One-result (W·Weight .kind) (R·Follow .rule) ⌝ }
+{
+    0
+}
+
+/// The recursion over predecessors, which builds no trend, comes to the result.
+pub fn recursion_is_result<W: Weight, R: Follow>() -> u8
+    ensures { λ r. ⌜ (r ≡ 0) × Recursion-is-result (W·Weight .kind) (R·Follow .rule) ⌝ }
+{
+    0
+}
+
+/// Events that are not of the window and lift, or whose type is in no word of the pattern, may be dropped.
+pub fn irrelevant_dropped<W: Weight, R: Follow>() -> u8
+    ensures { λ r. ⌜ (r ≡ 0) × Irrelevant-dropped (W·Weight .kind) (R·Follow .rule) ⌝ }
+{
+    0
+}
+
+/// A lawful map between two kinds carries each result by the one to the result by the other.
+pub fn results_carried<V: Weight, W: Weight, R: Follow>() -> u8
+    ensures { λ r. ⌜ (r ≡ 0) × Results-carried (V·Weight .kind) (W·Weight .kind) (R·Follow .rule) ⌝ }
+{
+    0
+}
