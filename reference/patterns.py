@@ -1,3 +1,5 @@
+"""An independent reader of pattern texts: it tries all derivations. Run with the folder `crates` to write the samples of
+`pattern_cases` and `explain`: their input, and the output that the rules give."""
 names=["TEST","MISS","DROP","BACK","BATT","MAINS","CALL","TALK","DONE","VISIT"]
 def stretches(text):
     out=[];i=0
@@ -79,3 +81,41 @@ def steps(t):
     for u in t[1]: s|=steps(u)
     for a,b in zip(t[1],t[1][1:]): s.add((end(a),start(b)))
     return s
+
+if __name__=="__main__":
+    import random,sys
+    folder=sys.argv[1]
+    cs=[b"BATT",b"BATT+",b"(BATT)",b"((BATT))",b"(BATT)+",b"(BATT+)",b"(BATT+)+",b"((BATT+)+)+",b"((BATT)+)",b"SEQ(DROP,MISS)",b"SEQ(DROP,MISS+)+",b"SEQ(DROP,MISS+)",b" SEQ ( DROP , MISS + ) + ",b"SEQ((DROP),MISS)",b"SEQ(DROP,SEQ(MISS,BACK))",b"SEQ(SEQ(DROP,MISS),BACK)",b"SEQ(DROP,MISS,BACK)",b"(SEQ(DROP,MISS))+",b"SEQ(TEST,MISS,DROP,BACK,BATT,MAINS,CALL,TALK,DONE,VISIT)",b"((((((((((((((((BATT))))))))))))))))",
+     b"",b" ",b"     ",b"BATT++",b"BATT BATT",b"SEQ(DROP,DROP)",b"SEQ(DROP)",b"SEQ",b"SEQ(",b"SEQ(DROP,",b"SEQ(DROP,MISS",b"SEQ DROP",b"SEQ()",b"()",b"(BATT",b"BATT)",b"+",b",",b")",b"BATT,MISS",b"batt",b"BATT-",b"BAT",b"BATTERY",b"SEQX(DROP,MISS)",b"BATT FOO",b"SEQ(DROP,MISS)BATT",b"SEQ(DROP MISS)",b"SEQ(DROP+,DROP)",b"SEQ(BATT+,(BATT))",b"((((((((((((((((BATT(",b"(((((((((((((((((",b"(((((((((((((((((BATT)))))))))))))))))",b"((((((((((((((((SEQ(DROP,MISS)",b"SEQ(((((((((((((((((",b"BATT"+b" "*246,b"BATT"+b" "*247,b" "*250,b" "*251,b"BATT\r",b"BATT\x00",b"\xff",b"(BATT+)++",b"((BATT+)+)++",b"BATTSEQ",b"SEQ(DROP,MISS,)",b"SEQ(,DROP)",b"(DROP,MISS)",b"SEQ((DROP,MISS))",b"BATT +",b"S EQ(DROP,MISS)",b"SEQ(DROP;MISS)",b"DROP DROP+",b"BATT"*63]
+    random.seed(7)
+    toks=["BATT","DROP","MISS","SEQ","(",")",",","+"," "]
+    def rnd(d,ns):
+        r=random.random()
+        if d==0 or r<.35 or len(ns)<2: t=ns.pop() if ns else "BATT"
+        elif r<.6: t="("+rnd(d-1,ns)+")"
+        else: t="SEQ("+",".join(rnd(d-1,ns) for _ in range(random.randint(2,3)))+")"
+        return t+("+" if random.random()<.4 else "")
+    for _ in range(60):
+        ns=names[:]; random.shuffle(ns)
+        t=rnd(4,ns)
+        if random.random()<.5:
+            k=random.randrange(len(t)+1); t=t[:k]+random.choice(["+",")","(",","," ","A","x",""])+t[k+random.randint(0,1):]
+        cs.append(t.encode())
+    for _ in range(40): cs.append("".join(random.choice(toks) for _ in range(random.randint(1,9))).encode())
+    with open(folder+'/pattern_cases/stdin','wb') as f: f.write(b"\n".join(cs)+b"\n")
+    with open(folder+'/pattern_cases/stdout','w') as f:
+        for c in cs:
+            n,p,t=read(c)
+            f.write("0 "+wr(t)+"\n" if n==0 else "%d at %d\n"%(n,p))
+    # explain sample
+    reasons={1:"a pattern text has 1 to 250 bytes",2:"no pattern has this byte",3:"this word is neither SEQ nor an event type",4:"no pattern goes on or ends like this",5:"more than 16 brackets are open",6:"this event type stands here a second time"}
+    ex=[b"BATT",b"BATT+",b"(BATT+)+",b"SEQ ( DROP , (MISS)+ )+",b"SEQ(MAINS,SEQ(DROP,BACK)+,DONE)",b"",b"BATT;",b"BATTERY+",b"BATT++",b"SEQ(DROP,MISS",b"(((((((((((((((((BATT",b"SEQ(DROP,DROP)",b"TEST\t+",b"BATT\x00",b"BATT\x7f",b"\x80BATT",b"BATT\xff+"]
+    with open(folder+'/explain/stdin','wb') as f: f.write(b"\n".join(ex)+b"\n")
+    with open(folder+'/explain/stdout','w') as f:
+        for c in ex:
+            f.write("".join(chr(b) if 32<=b<=126 else "?" for b in c)+"\n")
+            n,p,t=read(c)
+            if n: f.write(" "*p+"^\n    refused %d at %d: %s\n"%(n,p,reasons[n]))
+            else:
+                st=" ".join("%s>%s"%(a,b) for a in names for b in names if (a,b) in steps(t)) or "none"
+                f.write("    pattern %s\n    start %s\n    end %s\n    steps %s\n"%(wr(t),start(t),end(t),st))

@@ -1,7 +1,7 @@
 //! A record as one line of text.
 use crate::record::Record;
 use events::EventType;
-use pattern::pattern::Pattern;
+use pattern::Pattern;
 use records::record::EventRecord;
 use records::record::Header;
 use records::record::Input;

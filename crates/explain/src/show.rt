@@ -1,9 +1,9 @@
 //! What is printed for one pattern text.
 use events::EventType;
-use pattern::pattern::Pattern;
-use pattern::refusal::ReadFault;
-use pattern::refusal::ReadRefusal;
-use pattern::template::Template;
+use pattern::Pattern;
+use pattern::ReadFault;
+use pattern::ReadRefusal;
+use pattern::Template;
 use std::alloc::AllocError;
 use std::alloc::Global;
 
@@ -34,7 +34,7 @@ fn push_pattern(out: &mut String, pattern: &Pattern) -> Result<(), AllocError> {
     let mut text = [0; 250];
     if let Ok(len) = pattern.write(&mut text) {
         out.push_str("    pattern ")?;
-        push_shown(out, &text[0..len.min(250)])?;
+        push_shown(out, &text[0..len])?;
     }
     let template = pattern.template();
     out.push_str("\n    start ")?;

@@ -1,6 +1,6 @@
 //! Reads pattern texts, one a line, and prints for each the refusal's number and place, or 0 and the text written back.
 //! The expected output was worked out from the rules by another program.
-use pattern::pattern::Pattern;
+use pattern::Pattern;
 use std::alloc::AllocError;
 use std::alloc::Global;
 use std::error::AnyError;
@@ -41,7 +41,7 @@ fn main(rt: LibcRuntime) -> Result<(), AnyError> {
 
 #[cfg(test)]
 mod tests {
-    use pattern::pattern::Pattern;
+    use pattern::Pattern;
     use std::test::*;
 
     // What a text of one byte must be refused with: 4 at the end where it begins a pattern.
