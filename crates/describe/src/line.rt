@@ -12,7 +12,7 @@ use records::record::RuleSetting;
 use std::alloc::AllocError;
 use std::alloc::Global;
 
-/// The largest number of 32 bits: Least tells it where there is no trend.
+/// The largest number of 32 bits: the weight that Least and LeastWays tell where there is no trend.
 const NONE: u32 = u32::MAX;
 
 pub fn line_of(heap: Global, record: Record) -> Result<String, AllocError> {
@@ -125,7 +125,7 @@ fn told_by(heap: Global, kind: Option<KindNumber>, a: u32, b: u32) -> Result<Str
         Some(KindNumber::Count) => format!(heap, "trends={a}"),
         Some(KindNumber::Least) if a == NONE => String::from_str(heap, "none"),
         Some(KindNumber::Least) => format!(heap, "weight={a}"),
-        Some(KindNumber::LeastWays) if b == 0 => String::from_str(heap, "none"),
+        Some(KindNumber::LeastWays) if a == NONE || b == 0 => String::from_str(heap, "none"),
         Some(KindNumber::LeastWays) => format!(heap, "weight={a} ways={b}"),
         Some(KindNumber::Most) if b == 0 => String::from_str(heap, "none"),
         Some(KindNumber::Most) => format!(heap, "weight={a}"),

@@ -4,7 +4,7 @@ use mathlib.Core.List.{List, [], _∷_, _++_}
 use mathlib.Core.Logic.{⊎-elim}
 use mathlib.Core.Path.{_≡_, refl, sym, subst}
 use native.Mathlib.Omega.{arith}
-use Prim.Native.Nat.{ℕ, _+_, _≤_, _<_}
+use Prim.Native.Nat.{ℕ, _≤_}
 use denote.Ref.{now}
 use lib.Dec.{eqb}
 use lib.ListN.{length, getD, length-append}
@@ -18,12 +18,13 @@ use Rattle.records.specs.declared.refusal.ReadRefusal.the-variants.{Kind, Rule
 use Rattle.records.specs.Fields.{Begins}
 use Rattle.records.specs.Formats.{mark-hd, kind-number, rule-number, gap-fields, header-fields}
 use Rattle.records.specs.Raw.{front-fields, gap-if, raw-fields}
-use Rattle.records.specs.Reading.{mark-of, First-no, ask-header}
+use Rattle.records.specs.Reading.{First-no, ask-header}
 
+-- the first three questions have the answer yes, and kind and rule stand where they are asked for
 pub record Placed (f : Front) (bs : List ℕ) : Type 0 where
-  pub two : 2 ≤ length bs
-  pub mark : mark-of bs ≡ mark-hd
-  pub whole : (getD bs 12 0 ≡ 2 → 18 + getD bs 17 0 ≤ length bs) × ((getD bs 12 0 ≡ 2 → ⊥) → 14 + getD bs 13 0 ≤ length bs)
+  pub two : ask-header bs .two
+  pub mark : ask-header bs .mark
+  pub whole : ask-header bs .whole
   pub kind : getD bs 11 0 ≡ f .kind
   pub rule : getD bs 12 0 ≡ f .rule
 

@@ -285,6 +285,85 @@ fn cut_short() -> Result<(), Fail> {
     Ok(())
 }
 
+/// A header, an event and a tick that is cut.
+const ROW: [u8; 32] = [
+    0x48,
+    0x44,
+    1,
+    2,
+    3,
+    4,
+    5,
+    6,
+    7,
+    8,
+    9,
+    1,
+    1,
+    0,
+    0x45,
+    0x56,
+    1,
+    2,
+    3,
+    4,
+    5,
+    6,
+    7,
+    8,
+    9,
+    10,
+    11,
+    12,
+    13,
+    0x54,
+    0x4b,
+    0,
+];
+
+/// Reads a header and three more records, each at its place, up to the first refusal.
+fn read_row(bytes: &[u8]) -> Result<(), ReadFault> {
+    let (_, mut rest) = read_header(bytes, 0)?;
+    for _ in 0..3 {
+        let place = bytes.len().saturating_sub(rest.len()) as u64;
+        let (_, left) = read_input(rest, place)?;
+        rest = left;
+    }
+    Ok(())
+}
+
+#[test]
+fn rows() -> Result<(), Fail> {
+    check_eq(
+        read_row(&ROW),
+        Err(ReadFault {
+            refusal: ReadRefusal::Short,
+            place: 29,
+        }),
+    )?;
+    check_eq(
+        read_row(&ROW[0..29]),
+        Err(ReadFault {
+            refusal: ReadRefusal::End,
+            place: 29,
+        }),
+    )?;
+    check_eq(
+        read_row(&ROW[0..28]),
+        Err(ReadFault {
+            refusal: ReadRefusal::Short,
+            place: 14,
+        }),
+    )?;
+    check_eq(
+        read_row(&ROW[14..32]),
+        Err(ReadFault {
+            refusal: ReadRefusal::Mark,
+            place: 0,
+        }),
+    )
+}
+
 /// A kind, a rule, and what the header of both is refused for.
 const KINDS_AND_RULES: [(u8, u8, Option<ReadRefusal>); 14] = [
     (0, 1, Some(ReadRefusal::Kind)),
