@@ -7,6 +7,7 @@ pub mod Testing
 pub mod Results
 pub mod Dropping
 pub mod Starts
+pub mod Suffice
 pub mod Fronts
 pub mod Times
 pub mod Lifts

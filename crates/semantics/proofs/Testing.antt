@@ -1,6 +1,7 @@
 -- Whether marks choose a trend can be tested, so the trends can be listed.
 use mathlib.Core.Bool.{Bool, true, _&&_, false≢true}
 use mathlib.Core.List.{List, [], _∷_, map}
+use mathlib.Core.Logic.{_↔_}
 use mathlib.Core.Path.{_≡_, sym, _∙_}
 use Prim.Native.Nat.{ℕ, _<_}
 use lib.Dec.{leb, ltb, eqb}
@@ -63,14 +64,18 @@ module _ {R : Type 0} (rule : Rule R) (s : Setup R) (shape : Shape) (k : ℕ) wh
           decides-like (goes first (last g) next (e ∷ es)) (λ h. (h .1 .0, (h .0, h .1 .1), h .1 .2)) (λ h. (h .1 .0, (h .0, h .1 .1, h .2)))
           (decides-and (first e) (goes-on (last g) next e es) (λ t. t, λ t. t) (on-decides e es))
 
-      -- the trends, as those that pass the test among all lists of flags
-      pub trends-flagged : Fits-pattern s shape → (events : List Event) → Listing (Trend rule s k g events) (flags (length events) (λ m. goes first (last g) next (chosen m events)))
-      trends-flagged fits events = flags-listed (length events) (λ m. goes first (last g) next (chosen m events)) (λ m.
+      -- a flag for each event, by which the chosen ones pass the test: that is a trend
+      pub trend-tested : Fits-pattern s shape → (events : List Event) (m : List Bool) → ((length m ≡ length events) × (goes first (last g) next (chosen m events) ≡ true)) ↔ Trend rule s k g events m
+      trend-tested fits events m =
           let test = goes-decides (chosen m events) in
           let word = fits (map (λ e. e .kind) (chosen m events)) in (
             λ p. let h = test .0 (p .1) in record { for-each = p .0; belong = h .0; word = word .1 (h .1); follow = h .2 },
             λ t. (t .for-each, test .1 (t .belong, word .0 (t .word), t .follow)),
-          ))
+          )
+
+      -- the trends, as those that pass the test among all lists of flags
+      pub trends-flagged : Fits-pattern s shape → (events : List Event) → Listing (Trend rule s k g events) (flags (length events) (λ m. goes first (last g) next (chosen m events)))
+      trends-flagged fits events = flags-listed (length events) (λ m. goes first (last g) next (chosen m events)) (trend-tested fits events)
 
 -- the trends of any events can be listed
 pub trends-listed : {R : Type 0} (rule : Rule R) (s : Setup R) (shape : Shape) → Decided rule → Fits-pattern s shape → (k g : ℕ) (events : List Event) → (ts : List (List Bool)) × Listing (Trend rule s k g events) ts

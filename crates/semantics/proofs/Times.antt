@@ -8,7 +8,7 @@ use lib.Dec.{leb}
 use lib.ListN.{length, drop, take as front}
 use Rattle.std.proofs.shelf.Tests.{leb-true, leb-false, ltb-true, le-leb, lt-leb}
 use Rattle.std.proofs.shelf.Ways.{tells}
-use Rattle.std.specs.shelf.Lists.{leading}
+use Rattle.std.specs.shelf.Lists.{kept-by, leading}
 use Rattle.std.specs.declared.option.Option.{Option}
 use Rattle.std.specs.declared.option.Option.the-variants.{Some}
 use Rattle.std.specs.declared.result.Result.the-variants.{Ok, Err}
@@ -18,8 +18,8 @@ use Rattle.rules.specs.Rules.{Rule}
 use Rattle.weights.specs.Kinds.{Kind}
 use Rattle.semantics.specs.declared.refusal.Taken.the-variants.{Passed, Kept}
 use Rattle.semantics.specs.declared.setup.Setup.{Setup}
-use Rattle.semantics.specs.Histories.{take, tick, result, group, report, close, History, accepted, clock, first, filtered, kept, in-pattern, earlier-than, Question, first-no, take-questions, tick-questions, close-questions}
-use Rattle.semantics.specs.Laws.{Stands-alike, Idle-changes-nothing, Times-never-fall, Clock-not-behind, Before-the-end, Taken-into-first, Kept-by-taking, Kept-by-dropping}
+use Rattle.semantics.specs.Histories.{take, tick, result, group, report, close, History, accepted, clock, first, kept, in-pattern, earlier-than, Question, first-no, take-questions, tick-questions, close-questions}
+use Rattle.semantics.specs.Laws.{Stands-alike, Idle-changes-nothing, Kept-otherwise, Times-never-fall, Clock-not-behind, Before-the-end, Taken-into-first, Kept-by-taking, Kept-by-dropping}
 use Rattle.semantics.specs.Meaning.{Answers, Telling, Defined}
 use Rattle.semantics.specs.Trends.{All, Adjacent}
 use Rattle.semantics.specs.Windows.{window-start, window-end}
@@ -54,10 +54,10 @@ newest-adjacent [] h = tt
 newest-adjacent (e ∷ []) h = tt
 newest-adjacent (e ∷ d ∷ es) h = (h .0 .0, newest-adjacent (d ∷ es) (h .1))
 
-newest-filtered : (test : Event → Bool) (es : List Event) → Newest-first es → Newest-first (filtered test es)
+newest-filtered : (test : Event → Bool) (es : List Event) → Newest-first es → Newest-first (kept-by test es)
 newest-filtered test [] h = tt
 newest-filtered test (e ∷ es) h =
-    elim (test e) as (λ b. Newest-first (cond b (e ∷ filtered test es) (filtered test es))) [ true ↦ (all-filtered (λ x. x .time ≤ e .time) test es (h .0), newest-filtered test es (h .1)) | false ↦ newest-filtered test es (h .1) ]
+    elim (test e) as (λ b. Newest-first (cond b (e ∷ kept-by test es) (kept-by test es))) [ true ↦ (all-filtered (λ x. x .time ≤ e .time) test es (h .0), newest-filtered test es (h .1)) | false ↦ newest-filtered test es (h .1) ]
 
 abbrev since : ℕ → Event → Bool
 since from e = leb from (e .time)
@@ -95,7 +95,7 @@ module _ {R : Type 0} (s : Setup R) where
     timely-close le = record { begun = omega (arith, next-start s f); newest = h .newest; not-after = h .not-after; before-end = all-weaker (λ x lt. omega (arith, ends-never-fall s f (suc f) (omega arith))) es (h .before-end) }
 
 pub same-kept : {V W R : Type 0} (s : Setup R) (h : History V) (i : History W) → Stands-alike s h i → kept s h ≡ kept s i
-same-kept s h i st = λ x. filtered (λ e. in-pattern s (e .kind) && since (window-start s (st .2 x)) e) (st .0 x)
+same-kept s h i st = λ x. kept-by (λ e. in-pattern s (e .kind) && since (window-start s (st .2 x)) e) (st .0 x)
 
 module _ {V R : Type 0} (s : Setup R) where
   pub idle-changes-nothing : Idle-changes-nothing V s
@@ -108,6 +108,9 @@ module _ {V R : Type 0} (s : Setup R) where
   idle-changes-nothing (report n a) h i = (refl, refl, refl)
   idle-changes-nothing (close (Ok a)) h i = elim i [ ]
   idle-changes-nothing (close (Err r)) h i = (refl, refl, refl)
+
+  pub kept-otherwise : Kept-otherwise V s
+  kept-otherwise = (λ t a h. refl, λ d h i. same-kept s (d ∷ h) h (idle-changes-nothing d h i))
 
 module _ {V R : Type 0} (kind : Kind V) (telling : Option (Telling V)) (rule : Rule R) (s : Setup R) where
   pub timely : (h : History V) → Defined kind telling rule s h → Timely s (accepted h) (clock s h) (first h)
@@ -145,7 +148,7 @@ module _ {V R : Type 0} (kind : Kind V) (telling : Option (Telling V)) (rule : R
       ap (λ b. cond b (e ∷ kept s h) (kept s h)) (and-yes (in-pattern s (e .kind)) (since (window-start s (first h)) e) (le-leb (window-start s (first h)) (e .time) (timely (take e (Ok a) ∷ h) d .begun)))
 
   -- a close filters once more, and what it keeps is a front of the newest first
-  kept-again : (h : History V) (a : Unit {0}) → kept s (close (Ok a) ∷ h) ≡ filtered (since (window-start s (suc (first h)))) (kept s h)
+  kept-again : (h : History V) (a : Unit {0}) → kept s (close (Ok a) ∷ h) ≡ kept-by (since (window-start s (suc (first h)))) (kept s h)
   kept-again h a =
       let risen = starts-never-fall s (first h) (suc (first h)) (omega arith) in
       filtered-twice (λ e. in-pattern s (e .kind)) (since (window-start s (first h))) (since (window-start s (suc (first h)))) (λ e yes. le-leb (window-start s (first h)) (e .time) (omega (arith, leb-true (window-start s (suc (first h))) (e .time) yes))) (accepted h)

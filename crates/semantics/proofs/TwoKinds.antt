@@ -17,7 +17,7 @@ use Rattle.semantics.specs.declared.refusal.CallRefusal.{CallRefusal}
 use Rattle.semantics.specs.declared.refusal.Taken.{Taken}
 use Rattle.semantics.specs.declared.refusal.Taken.the-variants.{Passed, Kept}
 use Rattle.semantics.specs.declared.setup.Setup.{Setup}
-use Rattle.semantics.specs.Agreement.{Call, takes, ticks, results, groups, reports, closes, call-of, Names-lifts, Agree, both-take, both-tick, both-result, no-result, both-group, both-report, no-report, both-close, All2, Same-size}
+use Rattle.semantics.specs.Agreement.{Call, takes, ticks, results, groups, reports, closes, call-of, Names-lifts, Agree-at, both-take, both-tick, both-result, no-result, both-group, both-report, no-report, both-close, Agrees, Same-size}
 use Rattle.semantics.specs.Histories.{Entry, take, tick, result, group, report, close, History, accepted, first, kept, in-pattern, first-no, take-questions, tick-questions, window-questions, close-questions, report-questions}
 use Rattle.semantics.specs.Laws.{Stands-alike, Kinds-agree}
 use Rattle.semantics.specs.Meaning.{Answers, Least-lift, Lifts, Telling, Tells, none, one-more, Right, Reports-if, Answered}
@@ -74,7 +74,7 @@ names none = none
 names (one-more g v r more) = one-more g v tt (names more)
 
 module _ {V W R : Type 0} (s : Setup R) (t : Option (Telling V)) (u : Option (Telling W)) (φ : V → W) where
-  step-alike : (h : History V) (i : History W) {d : Entry V} {e : Entry W} → Agree t u φ d e → Stands-alike s h i → Stands-alike s (d ∷ h) (e ∷ i)
+  step-alike : (h : History V) (i : History W) {d : Entry V} {e : Entry W} → Agree-at s t u φ h d e → Stands-alike s h i → Stands-alike s (d ∷ h) (e ∷ i)
   step-alike h i (both-take e (Ok a)) st = (ap (λ es. e ∷ es) (st .0), refl, st .2)
   step-alike h i (both-take e (Err r)) st = st
   step-alike h i (both-tick time (Ok a)) st = (st .0, refl, st .2)
@@ -88,7 +88,7 @@ module _ {V W R : Type 0} (s : Setup R) (t : Option (Telling V)) (u : Option (Te
   step-alike h i (both-close (Err r)) st = st
 
   -- histories that agree stand alike
-  pub agree-alike : (h : History V) (i : History W) → All2 (Agree t u φ) h i → Stands-alike s h i
+  pub agree-alike : (h : History V) (i : History W) → Agrees s t u φ h i → Stands-alike s h i
   agree-alike [] [] p = (refl, refl, refl)
   agree-alike [] (e ∷ i) p = elim p [ ]
   agree-alike (d ∷ h) [] p = elim p [ ]
@@ -98,29 +98,50 @@ module _ {V W R : Type 0} (j : Kind V) (k : Kind W) (rule : Rule R) (s : Setup R
   kept-alike : kept s h ≡ kept s i
   kept-alike = same-kept s h i st
 
-  report-agrees : (t : Option (Telling V)) (u : Option (Telling W)) → Same-size t u → (n : ℕ) (a b : Result (List ℕ) CallRefusal) → Reports-if j t rule s t h n a → Reports-if k u rule s u i n b → Agree t u φ (report n a) (report n b)
+  report-agrees : (t : Option (Telling V)) (u : Option (Telling W)) → Same-size t u → (n : ℕ) (a b : Result (List ℕ) CallRefusal)
+      → Reports-if j t rule s t h n a → Reports-if k u rule s u i n b → Agree-at s t u φ h (report n a) (report n b)
   report-agrees None u size n a b p q = elim p [ ]
   report-agrees (Some t) None size n a b p q = elim q [ ]
   report-agrees (Some t) (Some u) size n a b p q =
       let same : p .0 ≡ q .0 = lifts-unique (p .1) (subst₂ (λ es f. Lifts es (window-start s f) (q .0)) (sym kept-alike) (sym (st .2)) (q .1)) in
-      both-answer (Tells t (Right j (Some t) rule s h (first h)) (first h) (p .0)) (Tells u (Right k (Some u) rule s i (first i)) (first i) (q .0)) (λ a b. Agree (Some t) (Some u) φ (report n a) (report n b)) (no-report n) (λ bs cs p′ q′. both-report n bs cs (first h, p .0, names p′, subst₂ (λ f ls. Names-lifts u f ls cs) (sym (st .2)) (sym same) (names q′))) (λ x. first-no (report-questions (size x * length (same x)) n)) a b (p .2) (q .2)
+      both-answer (Tells t (Right j (Some t) rule s h (first h)) (first h) (p .0))
+      (Tells u (Right k (Some u) rule s i (first i)) (first i) (q .0))
+      (λ a b. Agree-at s (Some t) (Some u) φ h (report n a) (report n b)) (no-report n)
+      (λ bs cs p′ q′. both-report n bs cs (p .0, p .1, names p′, subst₂ (λ f ls. Names-lifts u f ls cs) (sym (st .2)) (sym same) (names q′)))
+      (λ x. first-no (report-questions (size x * length (same x)) n)) a b (p .2) (q .2)
 
   module _ (t : Option (Telling V)) (u : Option (Telling W)) (size : Same-size t u) where
-    answers-agree : (c : Call) (a : Answer V c) (b : Answer W c) → Answered j t rule s h (entry c a) → Answered k u rule s i (entry c b) → Agree t u φ (entry c a) (entry c b)
-    answers-agree (takes e) = only-answer (λ x. x ≡ cond (in-pattern s (e .kind)) Kept Passed) (λ x. x ≡ cond (in-pattern s (e .kind)) Kept Passed) (λ a b. Agree t u φ (take e a) (take e b)) (both-take e) (λ x y p q. p ∙ sym q) (λ x. first-no (take-questions s (st .1 x) (st .2 x) (length (kept-alike x)) e))
-    answers-agree (ticks time) = only-answer (λ _. Unit {0}) (λ _. Unit {0}) (λ a b. Agree t u φ (tick time a) (tick time b)) (both-tick time) (λ x y p q. refl) (λ x. first-no (tick-questions s (st .1 x) time))
+    answers-agree : (c : Call) (a : Answer V c) (b : Answer W c)
+        → Answered j t rule s h (entry c a) → Answered k u rule s i (entry c b) → Agree-at s t u φ h (entry c a) (entry c b)
+    answers-agree (takes e) =
+        only-answer (λ x. x ≡ cond (in-pattern s (e .kind)) Kept Passed) (λ x. x ≡ cond (in-pattern s (e .kind)) Kept Passed)
+        (λ a b. Agree-at s t u φ h (take e a) (take e b)) (both-take e) (λ x y p q. p ∙ sym q)
+        (λ x. first-no (take-questions s (st .1 x) (st .2 x) (length (kept-alike x)) e))
+    answers-agree (ticks time) =
+        only-answer (λ _. Unit {0}) (λ _. Unit {0}) (λ a b. Agree-at s t u φ h (tick time a) (tick time b)) (both-tick time) (λ x y p q. refl)
+        (λ x. first-no (tick-questions s (st .1 x) time))
     answers-agree (results w g) =
-        both-answer (Right j t rule s h w g) (Right k u rule s i w g) (λ a b. Agree t u φ (result w g a) (result w g b)) (no-result w g) (λ v v′ p q. subst (λ x. Agree t u φ (result w g (Ok v)) (result w g (Ok x))) (unique (reverse (accepted i)) w g (φ v) v′ (subst (λ es. Result-is k rule s w g (reverse es) (φ v)) (st .0) (carried (reverse (accepted h)) w g v p)) q) (both-result w g v)) (λ x. first-no (window-questions s (st .2 x) w))
+        both-answer (Right j t rule s h w g) (Right k u rule s i w g)
+        (λ a b. Agree-at s t u φ h (result w g a) (result w g b)) (no-result w g)
+        (λ v v′ p q. subst (λ x. Agree-at s t u φ h (result w g (Ok v)) (result w g (Ok x)))
+        (unique (reverse (accepted i)) w g (φ v) v′ (subst (λ es. Result-is k rule s w g (reverse es) (φ v)) (st .0) (carried (reverse (accepted h)) w g v p)) q) (both-result w g v))
+        (λ x. first-no (window-questions s (st .2 x) w))
     answers-agree (groups w g) =
-        only-answer (Least-lift (kept s h) (window-start s w) g) (Least-lift (kept s i) (window-start s w) g) (λ a b. Agree t u φ (group w g a) (group w g b)) (both-group w g) (λ x y p q. least-lift-unique (kept s h) (window-start s w) g x y p (subst (λ es. Least-lift es (window-start s w) g y) (sym kept-alike) q)) (λ x. first-no (window-questions s (st .2 x) w))
+        only-answer (Least-lift (kept s h) (window-start s w) g) (Least-lift (kept s i) (window-start s w) g)
+        (λ a b. Agree-at s t u φ h (group w g a) (group w g b)) (both-group w g)
+        (λ x y p q. least-lift-unique (kept s h) (window-start s w) g x y p (subst (λ es. Least-lift es (window-start s w) g y) (sym kept-alike) q))
+        (λ x. first-no (window-questions s (st .2 x) w))
     answers-agree (reports n) = report-agrees t u size n
-    answers-agree closes = only-answer (λ _. Unit {0}) (λ _. Unit {0}) (λ a b. Agree t u φ (close a) (close b)) both-close (λ x y p q. refl) (λ x. first-no (close-questions s (st .1 x) (st .2 x)))
+    answers-agree closes =
+        only-answer (λ _. Unit {0}) (λ _. Unit {0}) (λ a b. Agree-at s t u φ h (close a) (close b)) both-close (λ x y p q. refl)
+        (λ x. first-no (close-questions s (st .1 x) (st .2 x)))
 
-    entries-agree : (d : Entry V) (e : Entry W) → call-of d ≡ call-of e → Answered j t rule s h d → Answered k u rule s i e → Agree t u φ d e
+    entries-agree : (d : Entry V) (e : Entry W) → call-of d ≡ call-of e → Answered j t rule s h d → Answered k u rule s i e → Agree-at s t u φ h d e
     entries-agree d e same p q =
         let a = answer-of d in
         let b = subst (λ c. (b : Answer W c) × (entry c b ≡ e)) (sym same) (answer-of e) in
-        subst₂ (Agree t u φ) (a .1) (b .1) (answers-agree (call-of d) (a .0) (b .0) (subst (Answered j t rule s h) (sym (a .1)) p) (subst (Answered k u rule s i) (sym (b .1)) q))
+        subst₂ (Agree-at s t u φ h) (a .1) (b .1)
+        (answers-agree (call-of d) (a .0) (b .0) (subst (Answered j t rule s h) (sym (a .1)) p) (subst (Answered k u rule s i) (sym (b .1)) q))
 
 module _ {V W R : Type 0} (j : Kind V) (k : Kind W) (t : Option (Telling V)) (u : Option (Telling W)) (rule : Rule R) (s : Setup R) (φ : V → W) (unique : (events : List Event) (w g : ℕ) (x y : W) → Result-is k rule s w g events x → Result-is k rule s w g events y → x ≡ y) (carried : Carries j k φ → (events : List Event) (w g : ℕ) (v : V) → Result-is j rule s w g events v → Result-is k rule s w g events (φ v)) where
   pub two-kinds : Kinds-agree j k t u rule s φ
@@ -129,5 +150,5 @@ module _ {V W R : Type 0} (j : Kind V) (k : Kind W) (t : Option (Telling V)) (u 
   two-kinds c size (d ∷ h) [] p q same = let z : _≡_ {A = ℕ} 0 1 = cc in omega arith
   two-kinds c size (d ∷ h) (e ∷ i) p q same =
       let calls : call-of d ≡ call-of e = cc in
-      let rest : All2 (Agree t u φ) h i = two-kinds c size h i (p .1) (q .1) (cc) in
+      let rest : Agrees s t u φ h i = two-kinds c size h i (p .1) (q .1) (cc) in
       (entries-agree j k rule s φ unique (carried c) h i (agree-alike s t u φ h i rest) t u size d e calls (p .0) (q .0), rest)

@@ -5,6 +5,7 @@ use mathlib.Core.List.{List, [], _∷_, reverse}
 use Prim.Native.Nat.{ℕ, suc, _+_, _*_}
 use lib.Dec.{eqb, leb, ltb}
 use lib.ListN.{length}
+use Rattle.std.specs.shelf.Lists.{kept-by}
 use Rattle.std.specs.declared.option.Option.{Option}
 use Rattle.std.specs.declared.option.Option.the-variants.{Some, None}
 use Rattle.std.specs.declared.result.Result.{Result}
@@ -66,10 +67,6 @@ first (report n a ∷ h) = first h
 first (close (Ok a) ∷ h) = suc (first h)
 first (close (Err r) ∷ h) = first h
 
-abbrev pub filtered : {X : Type 0} → (X → Bool) → List X → List X
-filtered keep [] = []
-filtered keep (x ∷ xs) = cond (keep x) (x ∷ filtered keep xs) (filtered keep xs)
-
 abbrev pub earlier-than : ℕ → Event → Bool
 earlier-than from e = ltb (e .time) from
 
@@ -88,7 +85,7 @@ in-pattern s code = any-of (λ k. eqb (code-of k) code) (names (tree (s .pattern
 
 -- the accepted events whose type is in the pattern and that are not before the first open window, the newest first
 abbrev pub kept : {V R : Type 0} → Setup R → History V → List Event
-kept s h = filtered (λ e. in-pattern s (e .kind) && leb (window-start s (first h)) (e .time)) (accepted h)
+kept s h = kept-by (λ e. in-pattern s (e .kind) && leb (window-start s (first h)) (e .time)) (accepted h)
 
 -- a question's answer, and the refusal that a no gives
 pub record Question : Type 0 where

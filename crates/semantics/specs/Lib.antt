@@ -4,6 +4,7 @@ pub mod Trends
 pub mod Recursion
 pub mod Histories
 pub mod Meaning
+pub mod Telling
 pub mod Agreement
 pub mod Laws
 pub mod Theorems

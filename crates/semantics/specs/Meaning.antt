@@ -60,7 +60,9 @@ module _ {V R : Type 0} (kind : Kind V) (telling : Option (Telling V)) (rule : R
 
   -- a report of the first open window into n bytes
   abbrev pub Reports : Telling V → History V → ℕ → Result (List ℕ) CallRefusal → Type 0
-  Reports t h n a = (ls : List ℕ) × Lifts (kept s h) (window-start s (first h)) ls × Answers (first-no (report-questions (t .size * length ls) n)) a (Tells t (Right h (first h)) (first h) ls)
+  Reports t h n a =
+      (ls : List ℕ) × Lifts (kept s h) (window-start s (first h)) ls
+      × Answers (first-no (report-questions (t .size * length ls) n)) a (Tells t (Right h (first h)) (first h) ls)
 
   -- only a kind that tells its results has reports
   abbrev pub Reports-if : Option (Telling V) → History V → ℕ → Result (List ℕ) CallRefusal → Type 0

@@ -7,16 +7,20 @@ use Rattle.std.specs.shelf.Lists.{kept-by}
 use Rattle.events.specs.declared.event.Event.{Event}
 use Rattle.grammar.specs.Trees.{In}
 use Rattle.grammar.specs.Words.{Word}
+use Rattle.pattern.specs.declared.template.Template.{Template}
+use Rattle.pattern.specs.Compiled.{Decides-words}
 use Rattle.pattern.specs.Patterns.{tree}
 use Rattle.rules.specs.Rules.{Rule}
 use Rattle.weights.specs.Kinds.{Kind}
 use Rattle.weights.specs.Maps.{Carries}
 use Rattle.std.specs.declared.option.Option.{Option}
 use Rattle.semantics.specs.declared.setup.Setup.{Setup}
-use Rattle.semantics.specs.Laws.{Clock-not-behind, Times-never-fall, Before-the-end, Taken-into-first, Kept-by-taking, Kept-by-dropping, Idle-changes-nothing, Kinds-agree}
+use Rattle.semantics.specs.Histories.{History, accepted, first, kept}
+use Rattle.semantics.specs.Laws.{Clock-not-behind, Times-never-fall, Before-the-end, Taken-into-first, Kept-by-taking, Kept-by-dropping, Kept-otherwise, Idle-changes-nothing, Kinds-agree}
 use Rattle.semantics.specs.Meaning.{Telling}
-use Rattle.semantics.specs.Recursion.{Shape, Fits-pattern, Valued, Filled, total, events-of}
+use Rattle.semantics.specs.Recursion.{shape-of, Valued, Filled, total, events-of}
 use Rattle.semantics.specs.Trends.{Belongs, Result-is}
+use Rattle.semantics.specs.Windows.{Open}
 
 -- of any events each window and lift has a result, and no second one
 abbrev pub One-result : {V R : Type 0} → Kind V → Rule R → Type 0
@@ -24,11 +28,11 @@ One-result {V} {R} kind rule =
     (s : Setup R) (k g : ℕ) (events : List Event)
     → (v : V) × Result-is kind rule s k g events v × ((w : V) → Result-is kind rule s k g events w → w ≡ v)
 
--- what the recursion over predecessors comes to is the result
+-- what the recursion over predecessors comes to, by a template that decides the pattern's words, is the result
 abbrev pub Recursion-is-result : {V R : Type 0} → Kind V → Rule R → Type 0
 Recursion-is-result {V} {R} kind rule =
-    (s : Setup R) (shape : Shape) → Fits-pattern s shape → (k g : ℕ) (row : List (Valued V)) → Filled kind rule s shape k row
-    → Result-is kind rule s k g (reverse (events-of row)) (total kind rule s shape k g row)
+    (s : Setup R) (t : Template) → Decides-words (tree (s .pattern)) t → (k g : ℕ) (row : List (Valued V)) → Filled kind rule s (shape-of t) k row
+    → Result-is kind rule s k g (reverse (events-of row)) (total kind rule s (shape-of t) k g row)
 
 -- the test passes each event of the window and lift whose type stands in a word of the pattern
 abbrev pub Keeps-relevant : {R : Type 0} → Rule R → Setup R → ℕ → ℕ → (Event → Bool) → Type 0
@@ -40,6 +44,13 @@ Irrelevant-dropped {V} {R} kind rule =
     (s : Setup R) (k g : ℕ) (keep : Event → Bool) → Keeps-relevant rule s k g keep → (events : List Event) (v : V)
     → Result-is kind rule s k g (kept-by keep events) v → Result-is kind rule s k g events v
 
+-- the kept events are enough for each open window: the recursion over them alone comes to the result of all accepted events
+abbrev pub Kept-suffice : {V R : Type 0} → Kind V → Rule R → Type 0
+Kept-suffice {V} {R} kind rule =
+    (s : Setup R) (t : Template) → Decides-words (tree (s .pattern)) t → (h : History V) (k g : ℕ) (row : List (Valued V))
+    → Open s (first h) k → events-of row ≡ kept s h → Filled kind rule s (shape-of t) k row
+    → Result-is kind rule s k g (reverse (accepted h)) (total kind rule s (shape-of t) k g row)
+
 -- a lawful map carries the results by one kind to those by another
 abbrev pub Results-carried : {V W R : Type 0} → Kind V → Kind W → Rule R → Type 0
 Results-carried {V} {W} {R} i j rule =
@@ -48,11 +59,15 @@ Results-carried {V} {W} {R} i j rule =
 
 -- times of accepted events never fall, none is after the clock, and each was taken into the window then first
 abbrev pub Times-in-order : {V R : Type 0} → Kind V → Rule R → Type 0
-Times-in-order {V} {R} kind rule = (telling : Option (Telling V)) (s : Setup R) → Clock-not-behind kind telling rule s × Times-never-fall kind telling rule s × Before-the-end kind telling rule s × Taken-into-first kind telling rule s
+Times-in-order {V} {R} kind rule =
+    (telling : Option (Telling V)) (s : Setup R)
+    → Clock-not-behind kind telling rule s × Times-never-fall kind telling rule s × Before-the-end kind telling rule s × Taken-into-first kind telling rule s
 
--- the kept events, from take to take and from close to close
+-- the kept events change by accepted takes and closes alone
 abbrev pub Kept-as-dropped : {V R : Type 0} → Kind V → Rule R → Type 0
-Kept-as-dropped {V} {R} kind rule = (telling : Option (Telling V)) (s : Setup R) → Kept-by-taking kind telling rule s × Kept-by-dropping kind telling rule s × Idle-changes-nothing V s
+Kept-as-dropped {V} {R} kind rule =
+    (telling : Option (Telling V)) (s : Setup R)
+    → Kept-by-taking kind telling rule s × Kept-by-dropping kind telling rule s × Kept-otherwise V s × Idle-changes-nothing V s
 
 -- two histories of the same calls agree, for every map that carries one kind to the other
 abbrev pub Kinds-always-agree : {V W R : Type 0} → Kind V → Kind W → Rule R → Type 0

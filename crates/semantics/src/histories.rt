@@ -11,7 +11,7 @@ pub fn times_in_order<W: Weight, R: Follow>() -> u8
     0
 }
 
-/// The kept events are what dropping the leading ones at each accepted close leaves.
+/// An accepted take adds to the kept events, an accepted close drops leading ones, and all else leaves them.
 pub fn kept_as_dropped<W: Weight, R: Follow>() -> u8
     ensures { λ r. ⌜ (r ≡ 0) × Kept-as-dropped (W·Weight .kind) (R·Follow .rule) ⌝ }
 {

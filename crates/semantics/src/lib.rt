@@ -3,3 +3,4 @@ pub mod histories;
 pub mod refusal;
 pub mod setup;
 pub mod theorems;
+pub mod windows;

@@ -1,6 +1,6 @@
 //! Why a call is refused.
 ghost use mathlib.Core.Path.{_≡_};
-ghost use Rattle.semantics.specs.Refusals.{number-of};
+ghost use Rattle.semantics.specs.Refusals.{number-of, taken-number};
 
 /// The first question that a call fails.
 #[derive(Clone, Copy, Debug, PartialEq, Eq)]
@@ -51,4 +51,16 @@ pub enum Taken {
     Passed,
     /// It is kept.
     Kept,
+}
+
+impl Taken {
+    /// What take answers: 0 for an event passed over, 1 for one kept.
+    pub fn number(self) -> u8
+        ensures { λ r. ⌜ r ≡ taken-number self ⌝ }
+    {
+        match self {
+            Taken::Passed => 0,
+            Taken::Kept => 1,
+        }
+    }
 }

@@ -1,6 +1,6 @@
 //! What holds of trends and results, for any weight kind and any follow rule. Each function answers 0.
 ghost use mathlib.Core.Path.{_≡_};
-ghost use Rattle.semantics.specs.Theorems.{One-result, Recursion-is-result, Irrelevant-dropped, Results-carried};
+ghost use Rattle.semantics.specs.Theorems.{One-result, Recursion-is-result, Irrelevant-dropped, Kept-suffice, Results-carried};
 use rules::Follow;
 use weights::Weight;
 
@@ -21,6 +21,13 @@ pub fn recursion_is_result<W: Weight, R: Follow>() -> u8
 /// Events that are not of the window and lift, or whose type is in no word of the pattern, may be dropped.
 pub fn irrelevant_dropped<W: Weight, R: Follow>() -> u8
     ensures { λ r. ⌜ (r ≡ 0) × Irrelevant-dropped (W·Weight .kind) (R·Follow .rule) ⌝ }
+{
+    0
+}
+
+/// The recursion over the kept events alone comes to the result of all accepted events, in each open window.
+pub fn kept_suffice<W: Weight, R: Follow>() -> u8
+    ensures { λ r. ⌜ (r ≡ 0) × Kept-suffice (W·Weight .kind) (R·Follow .rule) ⌝ }
 {
     0
 }

@@ -1,0 +1,3 @@
+pub mod Order
+pub mod Walk
+pub mod Theorems

@@ -1,0 +1,4 @@
+pub mod Lifts
+pub mod Rows
+pub mod Writes
+pub mod Filling
