@@ -155,7 +155,7 @@ impl Parser {
         }
     }
 
-    /// Takes one token more, or says which of the questions 4 to 6 it fails.
+    /// Takes one token more, or says why it cannot.
     pub fn accept(&mut self, symbol: Symbol) -> Result<(), ReadRefusal>
         requires { ⌜ now self .nodes .len < 250 ⌝ }
         ensures grown { λ _. ⌜ now (self .exit) .nodes .len ≤ now (self .entry) .nodes .len + 1 ⌝ }
