@@ -17,7 +17,7 @@ use Rattle.semantics.specs.Recursion.{shape-of}
 use Rattle.semantics.specs.Trends.{chosen, Trend}
 use Rattle.semantics.proofs.Shapes.{template-fits}
 use Rattle.semantics.proofs.Testing.{first, last, next, trend-tested}
-use Rattle.semantics.proofs.Valuing.{goes, goes-on}
+use Rattle.semantics.specs.Core.{goes, goes-on}
 use Rattle.listing.specs.Walk.{may-come, leads, marks-at, picked}
 use Rattle.listing.proofs.Places.{picked-chosen, marks-length}
 

@@ -12,13 +12,14 @@ use Rattle.weights.specs.Kinds.{Kind, Laws}
 use Rattle.weights.specs.Maps.{Carries}
 use Rattle.semantics.specs.declared.setup.Setup.{Setup}
 use Rattle.semantics.specs.Recursion.{Shape, Valued, Fits-pattern, before, Filled, total, events-of}
-use Rattle.semantics.specs.Theorems.{One-result}
+use Rattle.semantics.specs.Theorems.{One-result, Core-is-general, Join-laws-suffice}
 use Rattle.semantics.specs.Trends.{chosen, Listing, Trend, weight, joined, Result-is}
-use Rattle.semantics.proofs.Flags.{flags}
+use Rattle.semantics.proofs.Flags.{flags, flags-listed}
 use Rattle.semantics.proofs.Listings.{same-join}
 use Rattle.semantics.proofs.Shapes.{pattern-shape}
 use Rattle.semantics.proofs.Testing.{within, within-decides, first, last, next, trends-flagged, trends-listed}
-use Rattle.semantics.proofs.Valuing.{goes, gathered, Filled-by, gathered-is-join}
+use Rattle.semantics.specs.Core.{goes, gathered, Filled-by}
+use Rattle.semantics.proofs.Valuing.{gathered-is-join}
 
 pub result-unique : {V R : Type 0} {kind : Kind V} {rule : Rule R} {s : Setup R} {k g : ℕ} {events : List Event} {v w : V} → Result-is kind rule s k g events v → Result-is kind rule s k g events w → v ≡ w
 result-unique p q = let l = p .listed in p .all-join (l .0) (l .1) ∙ sym (q .all-join (l .0) (l .1))
@@ -88,3 +89,12 @@ module _ {V W : Type 0} (j : Kind V) (k : Kind W) (φ : V → W) (c : Carries j 
     listed = r .listed;
     all-join = λ ts l. ap φ (r .all-join ts l) ∙ carried-join (λ m. weight j (chosen m events)) (λ m. weight k (chosen m events)) (λ m. carried-weight (chosen m events)) ts;
   }
+
+pub core-is-general : {V : Type 0} (kind : Kind V) → Core-is-general kind
+core-is-general kind laws starts ends inside may from within row filled ts listed =
+    let events = reverse (events-of row) in
+    gathered-is-join kind starts may laws inside from ends within row filled
+    ∙ same-join kind (laws .joining) (λ marks. weight kind (chosen marks events)) _ ts (flags-listed (length events) (λ m. goes starts ends may (chosen m events)) (λ m. (λ p. p, λ p. p))) listed
+
+pub join-laws-suffice : {V : Type 0} (kind : Kind V) → Join-laws-suffice kind
+join-laws-suffice kind laws test value ts us l m = same-join kind laws value ts us l m

@@ -16,7 +16,7 @@ use Rattle.semantics.specs.Recursion.{Shape, Onward-by, Leads-by, Fits-pattern
 use Rattle.semantics.specs.Trends.{chosen, All, Adjacent, Listing, Follows, Belongs, Trend}
 use Rattle.semantics.specs.Windows.{window-start, window-end, In-window}
 use Rattle.semantics.proofs.Flags.{flags, flags-listed}
-use Rattle.semantics.proofs.Valuing.{goes-on, goes}
+use Rattle.semantics.specs.Core.{goes-on, goes}
 
 module _ {R : Type 0} (rule : Rule R) (s : Setup R) (shape : Shape) (k : ℕ) where
   abbrev pub within : Event → Bool

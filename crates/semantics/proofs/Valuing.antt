@@ -6,47 +6,23 @@ use mathlib.Core.Path.{_≡_, refl, sym, _∙_, ap, ap₂}
 use lib.ListN.{length}
 use Rattle.events.specs.declared.event.Event.{Event}
 use Rattle.weights.specs.Kinds.{Kind, Laws}
+use Rattle.semantics.specs.Core.{gathered, goes-on, goes, start-value, Filled-by}
 use Rattle.semantics.specs.Recursion.{Valued, events-of}
 use Rattle.semantics.specs.Trends.{chosen, weight, joined}
 use Rattle.semantics.proofs.Flags.{flags}
 use Rattle.semantics.proofs.Sums.{sums, sum-of-flags, sums-reverse, sums-cond, sums-chain, sums-same}
 
--- the join of the values of the events that pass
-abbrev pub gathered : {V : Type 0} → Kind V → (Event → Bool) → List (Valued V) → V
-gathered kind test [] = kind .zero
-gathered kind test (p ∷ ps) = cond (test (p .event)) (kind .join (p .value) (gathered kind test ps)) (gathered kind test ps)
-
--- of events in the order taken: from p on each may come next, and the last may end
-abbrev pub goes-on : (Event → Bool) → (Event → Event → Bool) → Event → List Event → Bool
-goes-on ends may p [] = ends p
-goes-on ends may p (e ∷ es) = may e p && goes-on ends may e es
-
-abbrev pub goes : (Event → Bool) → (Event → Bool) → (Event → Event → Bool) → List Event → Bool
-goes starts ends may [] = false
-goes starts ends may (e ∷ es) = starts e && goes-on ends may e es
-
 module _ {V : Type 0} (kind : Kind V) (starts : Event → Bool) (may : Event → Event → Bool) where
-  -- one where a trend may start
-  abbrev begun : Event → V
-  begun e = cond (starts e) (kind .one) (kind .zero)
-
-  -- each event inside has its value; the others may hold anything
-  abbrev pub Filled-by : (Event → Bool) → List (Valued V) → Type 0
-  Filled-by inside [] = Unit {0}
-  Filled-by inside (p ∷ ps) =
-      (inside (p .event) ≡ true → p .value ≡ kind .chain (kind .join (begun (p .event)) (gathered kind (may (p .event)) ps)) (kind .weigh (p .event)))
-      × Filled-by inside ps
-
   -- what chosen events, the newest first, weigh if the newest passes and the others lead to it; none come to v
   abbrev led : V → (Event → Bool) → List Event → V
   led v test [] = v
-  led v test (p ∷ c) = cond (test p) (kind .chain (led (begun p) (may p) c) (kind .weigh p)) (kind .zero)
+  led v test (p ∷ c) = cond (test p) (kind .chain (led (start-value kind starts p) (may p) c) (kind .weigh p)) (kind .zero)
 
   -- each event inside has the join over all choices that lead to it
   abbrev Summed : (Event → Bool) → List (Valued V) → Type 0
   Summed inside [] = Unit {0}
   Summed inside (p ∷ ps) =
-      (inside (p .event) ≡ true → p .value ≡ kind .chain (sums kind (led (begun (p .event)) (may (p .event))) (events-of ps)) (kind .weigh (p .event)))
+      (inside (p .event) ≡ true → p .value ≡ kind .chain (sums kind (led (start-value kind starts (p .event)) (may (p .event))) (events-of ps)) (kind .weigh (p .event)))
       × Summed inside ps
 
   -- what the events weigh if they start, go on and end well, else zero
@@ -69,13 +45,13 @@ module _ {V : Type 0} (kind : Kind V) (starts : Event → Bool) (may : Event →
 
     -- cut before e, which comes after c and before es
     cut : (ends : Event → Bool) (c : List Event) (e : Event) (es : List Event)
-        → weighed ends (reverseAux c (e ∷ es)) ≡ kind .chain (led (begun e) (may e) c) (cond (goes-on ends may e es) (weight kind (e ∷ es)) (kind .zero))
+        → weighed ends (reverseAux c (e ∷ es)) ≡ kind .chain (led (start-value kind starts e) (may e) c) (cond (goes-on ends may e es) (weight kind (e ∷ es)) (kind .zero))
     cut ends [] e es = cut-first (starts e) (goes-on ends may e es) (weight kind (e ∷ es))
-    cut ends (p ∷ c) e es = cut ends c p (e ∷ es) ∙ cut-next (may e p) (goes-on ends may e es) (led (begun p) (may p) c) (kind .weigh p) (weight kind (e ∷ es))
+    cut ends (p ∷ c) e es = cut ends c p (e ∷ es) ∙ cut-next (may e p) (goes-on ends may e es) (led (start-value kind starts p) (may p) c) (kind .weigh p) (weight kind (e ∷ es))
 
     led-weighs : (ends : Event → Bool) (c : List Event) → weighed ends (reverse c) ≡ led (kind .zero) ends c
     led-weighs ends [] = refl
-    led-weighs ends (e ∷ c) = cut ends c e [] ∙ cut-last (ends e) (led (begun e) (may e) c) (kind .weigh e)
+    led-weighs ends (e ∷ c) = cut ends c e [] ∙ cut-last (ends e) (led (start-value kind starts e) (may e) c) (kind .weigh e)
 
     regroup : (b : Bool) (u w v g : V) → (b ≡ true → w ≡ u) → kind .join (cond b u (kind .zero)) (kind .join v g) ≡ kind .join v (cond b (kind .join w g) g)
     regroup true u w v g e =
@@ -89,7 +65,7 @@ module _ {V : Type 0} (kind : Kind V) (starts : Event → Bool) (may : Event →
       gather v test within [] h = sym (laws .joining .monoid .identity-right v)
       gather v test within (p ∷ ps) h =
           let e = p .event in
-          let lead = led (begun e) (may e) in
+          let lead = led (start-value kind starts e) (may e) in
           ap₂ (kind .join)
           (sums-cond kind (laws .joining) (test e) (λ c. kind .chain (lead c) (kind .weigh e)) (events-of ps)
           ∙ ap (λ u. cond (test e) u (kind .zero)) (sums-chain kind laws lead (kind .weigh e) (events-of ps)))
@@ -97,15 +73,15 @@ module _ {V : Type 0} (kind : Kind V) (starts : Event → Bool) (may : Event →
           ∙ regroup (test e) (kind .chain (sums kind lead (events-of ps)) (kind .weigh e)) (p .value) v (gathered kind test ps) (λ t. h .0 (within e t))
 
       module _ (may-within : (e p : Event) → may e p ≡ true → inside p ≡ true) where
-        filled-summed : (ps : List (Valued V)) → Filled-by inside ps → Summed inside ps
+        filled-summed : (ps : List (Valued V)) → Filled-by kind starts may inside ps → Summed inside ps
         filled-summed [] f = tt
         filled-summed (p ∷ ps) f =
             let rest = filled-summed ps (f .1) in
             let e = p .event in
-            (λ i. f .0 i ∙ ap (λ v. kind .chain v (kind .weigh e)) (sym (gather (begun e) (may e) (may-within e) ps rest)), rest)
+            (λ i. f .0 i ∙ ap (λ v. kind .chain v (kind .weigh e)) (sym (gather (start-value kind starts e) (may e) (may-within e) ps rest)), rest)
 
         -- what is gathered at the end is the join over all lists of flags that choose well, of what they choose
-        pub gathered-is-join : (ends : Event → Bool) → ((e : Event) → ends e ≡ true → inside e ≡ true) → (ps : List (Valued V)) → Filled-by inside ps
+        pub gathered-is-join : (ends : Event → Bool) → ((e : Event) → ends e ≡ true → inside e ≡ true) → (ps : List (Valued V)) → Filled-by kind starts may inside ps
             → let events = reverse (events-of ps) in
             gathered kind ends ps ≡ joined kind (map (λ m. weight kind (chosen m events)) (flags (length events) (λ m. goes starts ends may (chosen m events))))
         gathered-is-join ends within ps f =

@@ -2,6 +2,7 @@ pub mod Refusals
 pub mod Windows
 pub mod Trends
 pub mod Recursion
+pub mod Core
 pub mod Histories
 pub mod Meaning
 pub mod Telling

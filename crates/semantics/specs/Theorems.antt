@@ -1,6 +1,6 @@
 -- What is proved of trends and results alone, for any kind and any rule.
 use mathlib.Core.Bool.{Bool, true}
-use mathlib.Core.List.{List, reverse}
+use mathlib.Core.List.{List, map, reverse}
 use mathlib.Core.Path.{_≡_}
 use Prim.Native.Nat.{ℕ}
 use Rattle.std.specs.shelf.Lists.{kept-by}
@@ -11,15 +11,16 @@ use Rattle.pattern.specs.declared.template.Template.{Template}
 use Rattle.pattern.specs.Compiled.{Decides-words}
 use Rattle.pattern.specs.Patterns.{tree}
 use Rattle.rules.specs.Rules.{Rule}
-use Rattle.weights.specs.Kinds.{Kind}
+use Rattle.weights.specs.Kinds.{Kind, CommutativeMonoid, Laws}
 use Rattle.weights.specs.Maps.{Carries}
 use Rattle.std.specs.declared.option.Option.{Option}
 use Rattle.semantics.specs.declared.setup.Setup.{Setup}
 use Rattle.semantics.specs.Histories.{History, accepted, first, kept}
+use Rattle.semantics.specs.Core.{gathered, Goes-by, Filled-by}
 use Rattle.semantics.specs.Laws.{Clock-not-behind, Times-never-fall, Before-the-end, Taken-into-first, Kept-by-taking, Kept-by-dropping, Kept-otherwise, Idle-changes-nothing, Kinds-agree}
 use Rattle.semantics.specs.Meaning.{Telling}
 use Rattle.semantics.specs.Recursion.{shape-of, Valued, Filled, total, events-of}
-use Rattle.semantics.specs.Trends.{Belongs, Result-is}
+use Rattle.semantics.specs.Trends.{Belongs, Result-is, Listing, chosen, weight, joined}
 use Rattle.semantics.specs.Windows.{Open}
 
 -- of any events each window and lift has a result, and no second one
@@ -72,3 +73,18 @@ Kept-as-dropped {V} {R} kind rule =
 -- two histories of the same calls agree, for every map that carries one kind to the other
 abbrev pub Kinds-always-agree : {V W R : Type 0} → Kind V → Kind W → Rule R → Type 0
 Kinds-always-agree {V} {W} {R} j k rule = (t : Option (Telling V)) (u : Option (Telling W)) (s : Setup R) (φ : V → W) → Kinds-agree j k t u rule s φ
+
+-- the recursion comes to the join over every listing of the choices that start, go on and end well, whatever the tests are
+abbrev pub Core-is-general : {V : Type 0} → Kind V → Type 0
+Core-is-general {V} kind =
+    Laws kind → (starts ends inside : Event → Bool) (may : Event → Event → Bool)
+    → ((later earlier : Event) → may later earlier ≡ true → inside earlier ≡ true) → ((e : Event) → ends e ≡ true → inside e ≡ true)
+    → (row : List (Valued V)) → Filled-by kind starts may inside row
+    → (ts : List (List Bool)) → Listing (Goes-by starts ends may (reverse (events-of row))) ts
+    → gathered kind ends row ≡ joined kind (map (λ marks. weight kind (chosen marks (reverse (events-of row)))) ts)
+
+-- that two listings join to the same needs the laws of join alone
+abbrev pub Join-laws-suffice : {V : Type 0} → Kind V → Type 0
+Join-laws-suffice {V} kind =
+    CommutativeMonoid (kind .zero) (kind .join) → (test : List Bool → Bool) (value : List Bool → V) (ts us : List (List Bool))
+    → Listing (λ marks. test marks ≡ true) ts → Listing (λ marks. test marks ≡ true) us → joined kind (map value ts) ≡ joined kind (map value us)

@@ -17,7 +17,8 @@ use Rattle.semantics.specs.declared.setup.Setup.{Setup}
 use Rattle.semantics.specs.Recursion.{Valued, shape-of, total}
 use Rattle.semantics.specs.Windows.{window-start, window-end}
 use Rattle.weights.specs.Kinds.{Kind}
-use Rattle.slots.specs.Rows.{slot, row, gathered, ends-by}
+use Rattle.semantics.specs.Core.{gathered}
+use Rattle.slots.specs.Rows.{slot, row, ends-by}
 
 module _ {V : Type 0} (kind : Kind V) (slots : List V) (k : ℕ) (es : List Event) (i : ℕ) (e : Event) (lt : i < length es) (is : e ≡ getD es i e) where
   pub row-more : row kind slots k (reverse (take (i + 1) es)) ≡ record { event = e; value = slot kind slots i k } ∷ row kind slots k (reverse (take i es))

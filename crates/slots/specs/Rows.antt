@@ -23,11 +23,6 @@ module _ {V : Type 0} (kind : Kind V) where
   row slots k [] = []
   row slots k (e ∷ es) = record { event = e; value = slot slots (length es) k } ∷ row slots k es
 
-  -- the join of the values of the events that pass the test
-  abbrev pub gathered : (Event → Bool) → List (Valued V) → V
-  gathered test [] = kind .zero
-  gathered test (p ∷ ps) = cond (test (p .event)) (kind .join (p .value) (gathered test ps)) (gathered test ps)
-
   -- the place's slots of the windows from first up to, without, end were written, that of window k with f k; all others stay
   pub record Written (before after : List V) (place first end : ℕ) (f : ℕ → V) : Type 0 where
     pub long : length after ≡ length before

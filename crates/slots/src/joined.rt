@@ -3,7 +3,8 @@ ghost use mathlib.Core.List.{reverse};
 ghost use mathlib.Core.Path.{_≡_};
 ghost use Prim.Native.Nat.{_*_, _≤_};
 ghost use lib.ListN.{length};
-ghost use Rattle.slots.specs.Rows.{row, gathered, ends-by};
+ghost use Rattle.semantics.specs.Core.{gathered};
+ghost use Rattle.slots.specs.Rows.{row, ends-by};
 use events::Event;
 use weights::Weight;
 

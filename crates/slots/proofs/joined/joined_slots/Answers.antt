@@ -4,7 +4,8 @@ use Prim.Native.Nat.{_+_, _*_, _%_}
 use native.Mathlib.Omega.{arith}
 use Rattle.std.proofs.shelf.Lists.{getD-read, take-all}
 use Rattle.std.proofs.shelf.Tests.{cond-true, cond-false}
-use Rattle.slots.specs.Rows.{slot, row, gathered, ends-by}
+use Rattle.semantics.specs.Core.{gathered}
+use Rattle.slots.specs.Rows.{slot, row, ends-by}
 use Rattle.slots.proofs.Rows.{gathered-more}
 use Rattle.slots.proofs.joined.joined_slots.Needs as need
 use Rattle.slots.proofs.joined.joined_slots.Needs.{then-ends-by, else-ends-by}

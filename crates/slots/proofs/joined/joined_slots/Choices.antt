@@ -1,7 +1,8 @@
 use mathlib.Core.List.{reverse}
 use mathlib.Core.Path.{_≡_}
 use lib.ListN.{take}
-use Rattle.slots.specs.Rows.{row, gathered, ends-by}
+use Rattle.semantics.specs.Core.{gathered}
+use Rattle.slots.specs.Rows.{row, ends-by}
 use Rattle.slots.proofs.joined.joined_slots.Given as given
 
 -- the sum is that of the events passed
