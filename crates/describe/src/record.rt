@@ -1,7 +1,7 @@
 //! Any record at the front of bytes.
-use records::read::read_header;
-use records::read::read_input;
-use records::read::read_output;
+use reading::read_header;
+use reading::read_input;
+use reading::read_output;
 use records::record::Header;
 use records::record::Input;
 use records::record::Output;

@@ -6,6 +6,7 @@ use denote.Ref.{now}
 use Rattle.records.specs.Fields.{row}
 use Rattle.records.specs.declared.record.EventRecord.{EventRecord}
 use Rattle.records.specs.declared.record.FaultRecord.{FaultRecord}
+use Rattle.records.specs.declared.record.Front.{Front}
 use Rattle.records.specs.declared.record.Header.{Header}
 use Rattle.records.specs.declared.record.Input.{Input}
 use Rattle.records.specs.declared.record.Input.the-variants as input
@@ -61,6 +62,10 @@ rule-number (Near gap) = 2
 abbrev pub gap-fields : RuleSetting → List (ℕ × ℕ)
 gap-fields Falling = []
 gap-fields (Near gap) = (4, gap) ∷ []
+
+-- a header from after its mark to its rule
+abbrev pub front-fields : Front → List (ℕ × ℕ)
+front-fields f = (4, f .origin) ∷ (4, f .slide) ∷ (1, f .n) ∷ (1, f .kind) ∷ (1, f .rule) ∷ []
 
 -- the text itself follows its length
 abbrev pub header-fields : Header → List (ℕ × ℕ)

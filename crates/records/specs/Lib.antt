@@ -1,7 +1,4 @@
 pub mod Refusals
 pub mod Fields
 pub mod Formats
-pub mod Reading
-pub mod Raw
 pub mod Writing
-pub mod Theorems

@@ -122,7 +122,7 @@ pub enum Output {
 
 /// The numbers of a header up to its rule.
 #[derive(Clone, Copy)]
-pub(crate) struct Front {
+pub struct Front {
     pub origin: u32,
     pub slide: u32,
     pub n: u8,

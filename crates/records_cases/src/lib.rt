@@ -1,7 +1,7 @@
 //! The readers and writers of records at single inputs.
-use records::read::read_header;
-use records::read::read_input;
-use records::read::read_output;
+use reading::read_header;
+use reading::read_input;
+use reading::read_output;
 use records::record::EventRecord;
 use records::record::FaultRecord;
 use records::record::Header;

@@ -1,9 +1,0 @@
-use Rattle.records.proofs.Rows.{both}
-use Rattle.records.proofs.read.event.Needs as need
-
-pub returns : need.returns
-returns c =
-    both (c .in-Continue-time .ensures tt) (
-    both (c .in-Continue-lift .ensures tt) (
-    both (c .in-Continue-kind .ensures tt) (
-    both (c .in-Continue-level .ensures tt) (c .in-Continue-load .ensures tt))))

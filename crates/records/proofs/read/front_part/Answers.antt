@@ -1,9 +1,0 @@
-use Rattle.records.proofs.Rows.{both}
-use Rattle.records.proofs.read.front_part.Needs as need
-
-pub returns : need.returns
-returns c =
-    both (c .in-Continue-origin .ensures tt) (
-    both (c .in-Continue-slide .ensures tt) (
-    both (c .in-Continue-n .ensures tt) (
-    both (c .in-Continue-kind .ensures tt) (c .in-Continue-rule .ensures tt))))

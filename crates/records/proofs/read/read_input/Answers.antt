@@ -1,5 +1,0 @@
-use Rattle.records.proofs.Instances.{input-exact}
-use Rattle.records.proofs.read.read_input.Needs as need
-
-pub returns : need.returns
-returns c = record { answer = c .input-at .ensures; exact = input-exact (c .args .bytes .now) (c .args .place) (c .input-at .result) (c .input-at .ensures) }

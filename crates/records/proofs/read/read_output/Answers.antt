@@ -1,5 +1,0 @@
-use Rattle.records.proofs.Instances.{output-exact}
-use Rattle.records.proofs.read.read_output.Needs as need
-
-pub returns : need.returns
-returns c = record { answer = c .output-at .ensures; exact = output-exact (c .args .bytes .now) (c .args .place) (c .output-at .result) (c .output-at .ensures) }

@@ -1,5 +1,0 @@
-use Rattle.records.proofs.Rows.{as-one}
-use Rattle.records.proofs.read.two.Needs as need
-
-pub returns : need.returns
-returns c = as-one (c .in-Continue-high .ensures tt) (c .in-Continue-low .ensures tt)
