@@ -1,4 +1,6 @@
 //! Reads records of all formats from standard input and prints each as one line of text.
+#![tactic(auto)]
+
 mod line;
 mod record;
 

@@ -1,5 +1,7 @@
 //! The trend engine: making it and its calls. Its memory is lent to each call: a place for an event per
 //! unit of capacity, and eight slots of weights a place.
+#![tactic(auto)]
+
 mod close;
 pub mod engine;
 pub mod making;

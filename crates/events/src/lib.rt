@@ -1,4 +1,6 @@
 //! The events that a lift's unit logs, and their ten types: codes and names.
+#![tactic(auto)]
+
 pub mod event;
 
 ghost use Rattle.std.specs.Prelude.{◌≡◌, ◌<◌, MatchOption, ◌≢◌};

@@ -1,4 +1,6 @@
 //! Marked examples: calls with the answers that the definitions give them.
+#![tactic(auto)]
+
 ghost use Rattle.std.specs.Prelude.{◌≡◌};
 ghost use Rattle.semantics.specs.Trends.{All};
 ghost use Rattle.examples.specs.Examples.{AsDefined, examples};

@@ -1,4 +1,6 @@
 //! Reads pattern texts, one a line, and prints what each means or why it is refused.
+#![tactic(auto)]
+
 mod show;
 
 use show::explain;

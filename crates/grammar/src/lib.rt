@@ -1,4 +1,6 @@
 //! The pattern language: what a pattern is, which texts write it, which words it has and which template accepts them.
+#![tactic(auto)]
+
 pub mod unambiguous;
 pub mod words;
 

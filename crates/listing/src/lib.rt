@@ -1,4 +1,6 @@
 //! Goes from choice to choice through the trends of a window and lift, by what a trend is.
+#![tactic(auto)]
+
 ghost use Rattle.std.specs.Prelude.{◌≡◌, false};
 ghost use Rattle.listing.specs.Order.{Fitting, NextTrend};
 ghost use Rattle.listing.specs.Theorems.{VisitsList, JoinsResult};

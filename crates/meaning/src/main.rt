@@ -1,4 +1,6 @@
 //! Prints what small streams of one lift mean: each trend, and what all come to by the four kinds.
+#![tactic(auto)]
+
 mod samples;
 mod show;
 

@@ -1,4 +1,6 @@
 //! Patterns: read from a text, written back, and compiled to a template.
+#![tactic(auto)]
+
 mod accept;
 mod compile;
 mod draft;

@@ -111,7 +111,7 @@ impl Token<'_> {
 fn symbol_of(word: &[u8]) -> Option<Symbol>
     ensures { Symbolic (Word word.entry) result }
 {
-    if word == b"SEQ" {
+    if word == b"SEQ".as_slice() {
         return Some(Symbol::Seq);
     }
     match EventType::from_name(word) {

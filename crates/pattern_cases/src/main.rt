@@ -1,5 +1,7 @@
 //! Reads pattern texts, one a line, and prints for each the refusal's number and place, or 0 and the text written back.
 //! The expected output was worked out from the rules by another program.
+#![tactic(auto)]
+
 use pattern::Pattern;
 use std::alloc::{AllocError, Global};
 use std::io::{BufRead, BufReader};

@@ -1,4 +1,6 @@
 //! Records from bytes.
+#![tactic(auto)]
+
 ghost use Rattle.std.specs.Prelude.{◌≡◌};
 ghost use Rattle.reading.specs.Theorems.{OneAnswer, WrittenIsRead};
 

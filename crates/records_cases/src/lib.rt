@@ -1,4 +1,6 @@
 //! The readers and writers of records at single inputs.
+#![tactic(auto)]
+
 use reading::{read_header, read_input, read_output};
 use records::record::{
     EventRecord, FaultRecord, Header, Input, KindNumber, Output, ResultRecord, RuleSetting, Tick,

@@ -1,4 +1,6 @@
 //! The follow rules: when a later event may come right after an earlier one in a trend.
+#![tactic(auto)]
+
 ghost use Rattle.std.specs.Prelude.{◌≡◌, Decides};
 ghost use Rattle.rules.specs.Rules.{Rule, Decided};
 ghost use Rattle.rules.specs.Given.{falling, near};

@@ -5,21 +5,21 @@ use Rattle.std.proofs.Common.{inl, inr, ⊎_elim, ap₂, subst₂, mul-pos, arit
 use Rattle.std.proofs.Math.Decide.{dec_lt}
 use Rattle.std.proofs.lemmas.Bool.{cases_lt}
 use Rattle.std.proofs.lemmas.Bool.Decides.{nat_tests}
-use Rattle.weights.specs.declared.values.LeastWays.{LeastWays, fits_type, canonical_type}
+use Rattle.weights.specs.declared.values.LeastWays.{LeastWays, fits-type, canonical-type}
 use Rattle.weights.specs.Caps.{top, capped}
 use Rattle.weights.specs.LeastWays.{pair, least_ways_of, least_ways_kind}
 
 module _ (w n : ℕ) where
-  fits_prop : IsProp (fits_type w n)
+  fits_prop : IsProp (fits-type w n)
   fits_prop = hlevel props
 
-  canonical_prop : (fits : fits_type w n) → IsProp (canonical_type w n fits)
+  canonical_prop : (fits : fits-type w n) → IsProp (canonical-type w n fits)
   canonical_prop fits = hlevel props
 
 -- equal weights and ways make equal values
 pub same : {x y : LeastWays} → x.weight ≡ y.weight → x.ways ≡ y.ways → x ≡ y
 same {x} {y} e f =
-    let P : ℕ → ℕ → Type 0 = λ w n. (fits : fits_type w n) (canonical : canonical_type w n fits) → x ≡ record { weight = w; ways = n; fits = fits; canonical = canonical } in
+    let P : ℕ → ℕ → Type 0 = λ w n. (fits : fits-type w n) (canonical : canonical-type w n fits) → x ≡ record { weight = w; ways = n; fits = fits; canonical = canonical } in
     subst₂ P e f (λ fits canonical. ap₂ (λ p q. record { weight = x.weight; ways = x.ways; fits = p; canonical = q }) (fits_prop _ _ x.fits fits) (canonical_prop _ _ fits x.canonical canonical)) y.fits y.canonical
 
 -- a pair of weight below T with ways is read as such, any other as zero

@@ -1,6 +1,8 @@
 //! Weight kinds: what is added up over trends. A kind has values, a join over trends, a chain along
 //! the events of a trend, and a weight for each event. The four at hand are `Count`, `Least`,
 //! `LeastWays` and `Most`.
+#![tactic(auto)]
+
 ghost use Rattle.std.specs.Prelude.{◌≡◌};
 ghost use Rattle.weights.specs.Kinds.{Kind, Laws};
 ghost use Rattle.weights.specs.Maps.{Carries};

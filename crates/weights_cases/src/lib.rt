@@ -1,4 +1,6 @@
 //! Table tests of the weight kinds and the follow rules.
+#![tactic(auto)]
+
 #[cfg(test)]
 mod kinds;
 #[cfg(test)]
