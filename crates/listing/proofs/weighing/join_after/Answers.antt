@@ -10,13 +10,13 @@ loop-marks-init g c =
 
 pub loop-marks-preserved : goal.loop-marks-preserved
 loop-marks-preserved g c =
-    one_joined g.W.Weight.kind g.met.W.Weight.lawful g.R.Follow.rule c.args.setup.now c.args.window c.args.lift c.args.events.now c.args.marks.now c.loop-marks.marks c.next-trend.new.marks
-    c.loop-marks.invariant (c.loop-marks-test.ensures.next (c.loop-marks.auto.marks ∙ c.requires.0, c.requires.1)) c.weight-of.ensures c.join-all.ensures
+    one_joined g.W.Weight.kind g.met.W.Weight.lawful g.R.Follow.rule c.args.setup.now c.args.window c.args.lift c.args.events.now c.args.marks.now c.loop-marks.marks c.next_trend.new.marks
+    c.loop-marks.invariant (c.loop-marks-test.ensures.next (c.loop-marks.auto.marks ∙ c.requires.0, c.requires.1)) c.weight_of.ensures c.join-all.ensures
 
 pub loop-marks-smaller : goal.loop-marks-smaller
 loop-marks-smaller g c =
     let f = c.loop-marks-test.ensures.next (c.loop-marks.auto.marks ∙ c.requires.0, c.requires.1) in
-    omega (arith, f.above, place_below c.next-trend.new.marks, ap choices f.trend.for_each, ap choices c.requires.0)
+    omega (arith, f.above, place_below c.next_trend.new.marks, ap choices f.trend.for_each, ap choices c.requires.0)
 
 pub returns : goal.returns
 returns g c =

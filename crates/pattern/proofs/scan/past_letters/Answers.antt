@@ -11,13 +11,13 @@ loop-at-init c =
 pub loop-at-preserved : goal.loop-at-preserved
 loop-at-preserved c =
     let inv = c.loop-at.invariant in
-    let upper = c.if-is-ascii-uppercase.ensures.cases in
+    let upper = c.if-is_ascii_uppercase.ensures.cases in
     (omega arith, omega arith, letters_more c.args.text.now c.args.from c.loop-at.at inv.0 c.loop-at-test.true inv.2 (omega arith))
 
-pub returns-else-is-ascii-uppercase : goal.returns-else-is-ascii-uppercase
-returns-else-is-ascii-uppercase c =
+pub returns-else-is_ascii_uppercase : goal.returns-else-is_ascii_uppercase
+returns-else-is_ascii_uppercase c =
     let inv = c.loop-at.invariant in
-    let other = c.if-is-ascii-uppercase.ensures.cases in
+    let other = c.if-is_ascii_uppercase.ensures.cases in
     record { ahead = inv.0; within = inv.1; letters = inv.2; stops = stops_here c.args.text.now c.loop-at.at c.loop-at-test.true (λ h. omega arith) }
 
 pub returns-after-loop-at : goal.returns-after-loop-at

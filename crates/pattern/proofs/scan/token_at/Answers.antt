@@ -17,10 +17,10 @@ returns-in-43 c = record { first = sign_first c.args.text.now c.args.place 43 c.
 
 pub returns-in-65-to-90 : goal.returns-in-65-to-90
 returns-in-65-to-90 c =
-    let run = c.past-letters-end.ensures in
+    let run = c.past_letters-end.ensures in
     let one : Letter (get_or c.args.text.now c.args.place 0) = omega arith in
-    let on = run_some c.args.text.now c.args.place c.past-letters-end.result c.requires.inside one run.ahead run.stops in
-    record { first = word_first c.args.text.now c.args.place c.past-letters-end.result on run.within run.letters run.stops; letters = run.letters }
+    let on = run_some c.args.text.now c.args.place c.past_letters-end.result c.requires.inside one run.ahead run.stops in
+    record { first = word_first c.args.text.now c.args.place c.past_letters-end.result on run.within run.letters run.stops; letters = run.letters }
 
-pub returns-in-default : goal.returns-in-default
-returns-in-default c = record { first = single_first c.args.text.now c.args.place c.requires.inside (λ h. omega arith) c.requires.solid; other = λ h. omega arith; unknown = unknown_single _ (λ h. omega arith) (λ h. omega arith) (λ h. omega arith) (λ h. omega arith) }
+pub returns-in_default : goal.returns-in_default
+returns-in_default c = record { first = single_first c.args.text.now c.args.place c.requires.inside (λ h. omega arith) c.requires.solid; other = λ h. omega arith; unknown = unknown_single _ (λ h. omega arith) (λ h. omega arith) (λ h. omega arith) (λ h. omega arith) }

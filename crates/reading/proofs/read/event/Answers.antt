@@ -3,7 +3,7 @@ use Rattle.reading.proofs.read.event.Goals as goal
 
 pub returns : goal.returns
 returns c =
-    both c.in-ok-time.ensures (
-    both c.in-ok-lift.ensures (
-    both c.in-ok-kind.ensures (
-    both c.in-ok-level.ensures c.in-ok-load.ensures)))
+    both c.in_ok-time.ensures (
+    both c.in_ok-lift.ensures (
+    both c.in_ok-kind.ensures (
+    both c.in_ok-level.ensures c.in_ok-load.ensures)))

@@ -3,7 +3,7 @@ use Rattle.reading.proofs.read.front_part.Goals as goal
 
 pub returns : goal.returns
 returns c =
-    both c.in-ok-origin.ensures (
-    both c.in-ok-slide.ensures (
-    both c.in-ok-n.ensures (
-    both c.in-ok-kind.ensures c.in-ok-rule.ensures)))
+    both c.in_ok-origin.ensures (
+    both c.in_ok-slide.ensures (
+    both c.in_ok-n.ensures (
+    both c.in_ok-kind.ensures c.in_ok-rule.ensures)))

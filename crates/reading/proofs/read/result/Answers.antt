@@ -3,7 +3,7 @@ use Rattle.reading.proofs.read.result.Goals as goal
 
 pub returns : goal.returns
 returns c =
-    both c.in-ok-kind.ensures (
-    both c.in-ok-window.ensures (
-    both c.in-ok-lift.ensures (
-    both c.in-ok-first.ensures c.in-ok-second.ensures)))
+    both c.in_ok-kind.ensures (
+    both c.in_ok-window.ensures (
+    both c.in_ok-lift.ensures (
+    both c.in_ok-first.ensures c.in_ok-second.ensures)))

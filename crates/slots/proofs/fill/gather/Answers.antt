@@ -4,7 +4,7 @@ use Rattle.semantics.specs.Recursion.{shape_of, before}
 use Rattle.slots.specs.Rows.{row, Written}
 use Rattle.slots.proofs.Filling.{gained, gained_joined, gained_passed}
 use Rattle.slots.proofs.fill.gather.Goals as goal
-use Rattle.slots.proofs.fill.gather.Goals.{then-may-precede, else-may-precede}
+use Rattle.slots.proofs.fill.gather.Goals.{then-may_precede, else-may_precede}
 
 pub loop-i-preserved : goal.loop-i-preserved
 loop-i-preserved g c =
@@ -20,13 +20,13 @@ loop-i-preserved g c =
     let i = c.loop-i.i in
     let p = c.index-older-i.result in
     let goal = λ (zs : List g.row.W.Denot). Written kind xs zs (length older) first end (gained kind rule s shape xs older e first end (i + 1)) in
-    elim c.if-may-precede.branch [
-      | then-may-precede w ↦
+    elim c.if-may_precede.branch [
+      | then-may_precede w ↦
           subst goal (sym w.slots-is)
-          (gained_joined kind rule s shape xs older e first end c.requires.early i p (omega arith) c.index-older-i.is c.loop-i.slots c.loop-i.invariant w.join-slots.new.slots (sym w.if-may-precede.ensures) w.join-slots.ensures)
-      | else-may-precede w ↦
+          (gained_joined kind rule s shape xs older e first end c.requires.early i p (omega arith) c.index-older-i.is c.loop-i.slots c.loop-i.invariant w.join_slots.new.slots (sym w.if-may_precede.ensures) w.join_slots.ensures)
+      | else-may_precede w ↦
           subst goal (sym w.slots-is)
-          (gained_passed kind rule s shape xs older e first end c.requires.early i p (omega arith) c.index-older-i.is c.loop-i.slots c.loop-i.invariant (sym w.if-may-precede.ensures))
+          (gained_passed kind rule s shape xs older e first end c.requires.early i p (omega arith) c.index-older-i.is c.loop-i.slots c.loop-i.invariant (sym w.if-may_precede.ensures))
     ]
 
 pub returns : goal.returns

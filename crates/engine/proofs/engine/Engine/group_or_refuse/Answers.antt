@@ -6,5 +6,5 @@ use Rattle.engine.proofs.engine.Engine.group_or_refuse.Goals as goal
 pub returns-in-None : goal.returns-in-None
 returns-in-None g c = (
   sym c.in-None.ensures,
-  subst₂ (λ n from. LeastLift (take n c.args.events.now) from c.args.lift c.least-lift.result) (sub-zero c.args.self.now.kept) c.window-start-from.ensures c.least-lift.ensures,
+  subst₂ (λ n from. LeastLift (take n c.args.events.now) from c.args.lift c.least_lift.result) (sub-zero c.args.self.now.kept) c.window_start-from.ensures c.least_lift.ensures,
 )

@@ -8,8 +8,8 @@ use Rattle.engine.proofs.Asking.{taken_full, places_counted, in_first_window, pl
 use Rattle.engine.proofs.Writing.{written_alike}
 use Rattle.engine.proofs.engine.Engine.keep.Goals as goal
 
-pub fill-slots-requires : goal.fill-slots-requires
-fill-slots-requires g c =
+pub fill_slots-requires : goal.fill_slots-requires
+fill_slots-requires g c =
     let self = c.args.self.now in
     let st = state self c.args.events.now c.args.slots.now in
     let e = c.args.event in
@@ -17,7 +17,7 @@ fill-slots-requires g c =
     let counted : length (take (self.kept - 0) c.args.events.now) ≡ self.kept = ap (λ n. length (take n c.args.events.now)) (sub-zero self.kept) ∙ places_counted st full in
     let pane-is : c.from-end.result ≡ pane self.setup e.time = c.from-end.ensures ∙ c.pane.ensures in
     record {
-      room = (omega (arith, counted, full.1, place_free st e c.requires.asked c.requires.named), omega (arith, c.from-first.ensures, pane-is, first_to_pane st e c.requires.asked), omega (arith, c.from-first.ensures, pane-is, pane_is_open st e c.requires.asked, self.setup.ranges), omega (arith, c.from-end.ensures, c.pane.type-inv));
+      room = (omega (arith, counted, full.1, place_free st e c.requires.asked c.requires.named), omega (arith, c.from-first.ensures, pane-is, first_to_pane st e c.requires.asked), omega (arith, c.from-first.ensures, pane-is, pane_is_open st e c.requires.asked, self.setup.ranges), omega (arith, c.from-end.ensures, c.pane.type_inv));
       early = subst (λ f. e.time < window_end self.setup f) (sym c.from-first.ensures) (in_first_window st e c.requires.asked);
     }
 
@@ -33,8 +33,8 @@ returns g c =
       engine = record { setup = refl; template = refl; clock = refl; first = refl; kept = add-one self.kept };
       events = refl;
       slots =
-          written_alike kind slots c.fill-slots.new.slots (λ older k. value_of kind g.R.Follow.rule self.setup (shape_of self.template) k c.args.event (row kind slots k (reverse older)))
+          written_alike kind slots c.fill_slots.new.slots (λ older k. value_of kind g.R.Follow.rule self.setup (shape_of self.template) k c.args.event (row kind slots k (reverse older)))
           (take (self.kept - 0) events) (places st) self.kept c.from-first.result self.first (c.from-end.result + 1) (suc (pane self.setup c.args.event.time))
           (ap (λ n. take n events) (sub-zero self.kept)) (places_counted st (taken_full st c.args.event c.requires.asked)) c.from-first.ensures
-          (add-one c.from-end.result ∙ ap suc (c.from-end.ensures ∙ c.pane.ensures)) c.fill-slots.ensures;
+          (add-one c.from-end.result ∙ ap suc (c.from-end.ensures ∙ c.pane.ensures)) c.fill_slots.ensures;
     }

@@ -21,8 +21,8 @@ module _ (t : ℕ) (c : more-After-put t) where
   goes_on : (us : List (Tree part)) (e : Draft) → PutsLast unclosed (trees (reverse c.part-seq.result.now)) c.put.new.self us e → PutsLast unclosed (trees (More ∷ reverse c.args.nodes.now)) c.args.self.now us e
   goes_on us e h = join_puts lengthened unclosed joined_more (trees (reverse c.args.nodes.now)) (trees (reverse c.part-seq.result.now)) us c.args.self.now e c.part-seq.ensures.puts c.put.ensures h
 
-pub more-returns-in-default : goal.more-returns-in-default
-more-returns-in-default t c = record { fewer = c.part-seq.ensures.fewer; puts = goes_on t (goal.at.more-returns-in-default t c).After-put _ _ (no_node unclosed c.part-seq.result.now _ _ _ c.in-default.ensures.cases) }
+pub more-returns-in_default : goal.more-returns-in_default
+more-returns-in_default t c = record { fewer = c.part-seq.ensures.fewer; puts = goes_on t (goal.at.more-returns-in_default t c).After-put _ _ (no_node unclosed c.part-seq.result.now _ _ _ c.in_default.ensures.cases) }
 
 pub more-returns-in-Pair : goal.more-returns-in-Pair
 more-returns-in-Pair t c = record {
@@ -42,16 +42,16 @@ more-returns-in-Name t c = record {
   puts = goes_on t (goal.at.more-returns-in-Name t c).After-put _ _ (lead_other _ _ _ c.part-seq.result.now c.in-Some.before.now c.in-Some.node.now c.in-Some.ensures.cases.0 c.in-Name.is c.lead.ensures.puts);
 }
 
-pub operand-returns-then-not-ends-in-plus : goal.operand-returns-then-not-ends-in-plus
-operand-returns-then-not-ends-in-plus t c = record {
+pub operand-returns-then-not-ends_in_plus : goal.operand-returns-then-not-ends_in_plus
+operand-returns-then-not-ends_in_plus t c = record {
   fewer = c.part.ensures.fewer;
-  puts = plain_operand (reverse c.args.nodes.now) _ c.args.self.now _ (sym c.if-not-ends-in-plus.ensures) c.part.ensures.puts;
+  puts = plain_operand (reverse c.args.nodes.now) _ c.args.self.now _ (sym c.if-not-ends_in_plus.ensures) c.part.ensures.puts;
 }
 
 pub operand-returns : goal.operand-returns
 operand-returns t c = record {
   fewer = c.part-before.ensures.fewer;
-  puts = enclosed_operand (reverse c.args.nodes.now) _ (sym c.if-not-ends-in-plus.ensures) c.put.ensures c.part-before.ensures.puts c.put-2.ensures;
+  puts = enclosed_operand (reverse c.args.nodes.now) _ (sym c.if-not-ends_in_plus.ensures) c.put.ensures c.part-before.ensures.puts c.put-2.ensures;
 }
 
 pub pair-returns : goal.pair-returns
@@ -60,8 +60,8 @@ pair-returns t c = record {
   puts = join_puts (λ a b. seq (two a b)) leading (λ a b. refl) (trees (reverse c.args.nodes.now)) (trees (reverse c.part-first.result.now)) _ c.args.self.now _ c.part-first.ensures.puts c.put.ensures c.lead.ensures.puts;
 }
 
-pub part-returns-in-default : goal.part-returns-in-default
-part-returns-in-default t c = record { fewer = omega arith; puts = no_node tokens c.args.nodes.now _ _ _ c.in-default.ensures.cases }
+pub part-returns-in_default : goal.part-returns-in_default
+part-returns-in_default t c = record { fewer = omega arith; puts = no_node tokens c.args.nodes.now _ _ _ c.in_default.ensures.cases }
 
 pub part-returns-in-Name : goal.part-returns-in-Name
 part-returns-in-Name t c = record {

@@ -10,4 +10,4 @@ returns-then-out-n c =
 pub returns : goal.returns
 returns c =
     let same = rest_of c.args.self.now.bytes c.args.self.now.at (omega arith) in
-    record { count = ap length same; room = omega (arith, ap length same); bytes = ap₂ (λ w l. w ++ drop (length l) c.args.out.now) (c.copy-from-slice.ensures.after ∙ same) same }
+    record { count = ap length same; room = omega (arith, ap length same); bytes = ap₂ (λ w l. w ++ drop (length l) c.args.out.now) (c.copy_from_slice.ensures.after ∙ same) same }

@@ -4,7 +4,7 @@ use Rattle.pattern.proofs.pattern.Pattern.parse.Goals as goal
 
 pub returns : goal.returns
 returns c = record {
-  reads = c.parse-sized.ensures;
-  only = λ o r. one_outcome c.args.text.now o _ r c.parse-sized.ensures;
-  accepts = exactly c.args.text.now _ c.parse-sized.ensures;
+  reads = c.parse_sized.ensures;
+  only = λ o r. one_outcome c.args.text.now o _ r c.parse_sized.ensures;
+  accepts = exactly c.args.text.now _ c.parse_sized.ensures;
 }

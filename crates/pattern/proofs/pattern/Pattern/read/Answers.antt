@@ -2,8 +2,8 @@ use Rattle.std.proofs.Common.{refl}
 use Rattle.std.proofs.lemmas.Result.{err_from_is_err_and}
 use Rattle.pattern.proofs.pattern.Pattern.read.Goals as goal
 
-pub returns-in-err-self : goal.returns-in-err-self
-returns-in-err-self c =
-    let p = err_from_is_err_and c.from-residual.result c.from-residual.ensures.1 in
-    let parsed = c.in-err-self.ensures in
+pub returns-in_err-self : goal.returns-in_err-self
+returns-in_err-self c =
+    let p = err_from_is_err_and c.from_residual.result c.from_residual.ensures.1 in
+    let parsed = c.in_err-self.ensures in
     rw (p.1, p.2) (record { reads = parsed.reads; only = parsed.only; accepts = parsed.accepts; refused = refl })

@@ -13,4 +13,4 @@ returns c =
     let p = c.args.self.now in
     let valid = pattern_valid p in
     let same = whole_text (trees (held p.nodes p.len)) _ _ _ p.one c.new-draft.ensures valid.short c.part-none.ensures.puts in
-    record { text = subst (λ w. Written w c.args.out.now c.copy-to.result c.copy-to.new.out) same c.copy-to.ensures; reads = written_reads (tree p) valid }
+    record { text = subst (λ w. Written w c.args.out.now c.copy_to.result c.copy_to.new.out) same c.copy_to.ensures; reads = written_reads (tree p) valid }

@@ -3,4 +3,4 @@ use Rattle.pattern.proofs.Cutting.{first_behind, none_left}
 use Rattle.pattern.proofs.scan.Tokens.next.Goals as goal
 
 pub returns-then-place-text : goal.returns-then-place-text
-returns-then-place-text c = record { text = refl; next = (c.past-spaces-place.ensures.cut _ (none_left _ _ c.if-place-text.true), refl) }
+returns-then-place-text c = record { text = refl; next = (c.past_spaces-place.ensures.cut _ (none_left _ _ c.if-place-text.true), refl) }

@@ -8,14 +8,14 @@ use Rattle.pattern.proofs.template.Marks.+add_part.Goals as goal
 pub returns-in-Name : goal.returns-in-Name
 returns-in-Name t c = record {
   within = omega arith;
-  adds = λ u rest e. adds_name c.args.nodes.now c.args.self.now c.add-type.new.self c.in-Name.kind (c.args.end - 1) c.add-type.ensures.types c.add-type.ensures.steps u rest
+  adds = λ u rest e. adds_name c.args.nodes.now c.args.self.now c.add_type.new.self c.in-Name.kind (c.args.end - 1) c.add_type.ensures.types c.add_type.ensures.steps u rest
       (last_node c.args.nodes.now c.args.end (Name c.in-Name.kind) (λ ns. trees ns ≡ u ∷ rest) (omega arith) c.requires c.in-Name.is e);
 }
 
 pub returns-in-Plus : goal.returns-in-Plus
 returns-in-Plus t c = record {
-  within = omega (arith, c.add-part-span.ensures.within);
-  adds = λ u rest e. adds_plus c.args.nodes.now c.args.self.now c.add-part-span.new.self c.add-step.new.self c.add-part-span.result (reverse (take (c.args.end - 1) c.args.nodes.now)) c.add-part-span.ensures.adds c.add-step.ensures.steps c.add-step.ensures.types u rest
+  within = omega (arith, c.add_part-span.ensures.within);
+  adds = λ u rest e. adds_plus c.args.nodes.now c.args.self.now c.add_part-span.new.self c.add_step.new.self c.add_part-span.result (reverse (take (c.args.end - 1) c.args.nodes.now)) c.add_part-span.ensures.adds c.add_step.ensures.steps c.add_step.ensures.types u rest
       (last_node c.args.nodes.now c.args.end Plus (λ ns. trees ns ≡ u ∷ rest) (omega arith) c.requires c.in-Plus.is e);
 }
 
@@ -23,9 +23,9 @@ pub returns-in-Pair : goal.returns-in-Pair
 returns-in-Pair t c =
     let nodes = c.args.nodes.now in
     let behind = reverse (take (c.args.end - 1) nodes) in
-    let right = c.add-part-right in
-    let left = c.add-part-left in
-    let step = c.add-step-in-Pair in
+    let right = c.add_part-right in
+    let left = c.add_part-left in
+    let step = c.add_step-in-Pair in
     record {
       within = omega (arith, left.ensures.within, right.ensures.within);
       adds = λ u rest e.

@@ -1,4 +1,4 @@
 use Rattle.pattern.proofs.template.Marks.+add_part.Given as goal
 
-abbrev pub decreases-add-part : goal.decreases-add-part
-decreases-add-part l = l.end
+abbrev pub decreases-add_part : goal.decreases-add_part
+decreases-add_part l = l.end

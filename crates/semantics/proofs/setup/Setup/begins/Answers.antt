@@ -3,8 +3,8 @@ use Rattle.std.proofs.Common.{◌+◌, ◌*◌, ap₂, mul-le-mul_right, arith}
 use Rattle.semantics.specs.Windows.{window_start}
 use Rattle.semantics.proofs.setup.Setup.begins.Goals as goal
 
-pub overflow-add-result : goal.overflow-add-result
-overflow-add-result g c =
+pub overflow_add-result : goal.overflow_add-result
+overflow_add-result g c =
     omega (arith, mul-le-mul_right c.from-2.result c.requires, c.from.ensures, c.from-2.ensures, c.args.self.now.ranges)
 
 pub returns : goal.returns
