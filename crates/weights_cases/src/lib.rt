@@ -2,6 +2,6 @@
 #![tactic(auto)]
 
 #[cfg(test)]
-mod kinds;
+mod follow;
 #[cfg(test)]
-mod rules;
+mod kinds;
