@@ -10,10 +10,9 @@ use Rattle.semantics.proofs.Results.{recursion_is_result_lem}
 use Rattle.semantics.proofs.Shapes.{shape_of_tree, tree_fits}
 use Rattle.semantics.specs.declared.refusal.CallRefusal.{CallRefusal}
 use Rattle.semantics.specs.declared.refusal.CallRefusal.TheVariants as refusal
-use Rattle.semantics.specs.declared.refusal.Taken.{Taken}
 use Rattle.semantics.specs.declared.refusal.Taken.TheVariants.{Passed, Kept}
 use Rattle.semantics.specs.declared.setup.Setup.{Setup}
-use Rattle.semantics.specs.Histories.{Entry, take, tick, result, group, report, close, History, accepted, clock, first, any_of, Question, first_no, tick_questions, window_questions, close_questions}
+use Rattle.semantics.specs.Histories.{take, tick, result, group, report, close, History, accepted, clock, first, any_of, Question, first_no, tick_questions, window_questions, close_questions}
 use Rattle.semantics.specs.Meaning.{Answers, Defined}
 use Rattle.semantics.specs.Recursion.{Valued, value_of, Filled, total, events_of}
 use Rattle.semantics.specs.Trends.{ResultIs}

@@ -7,7 +7,7 @@ use Rattle.pattern.specs.Patterns.{tree}
 use Rattle.rules.specs.Rules.{Rule, Decided}
 use Rattle.semantics.specs.declared.setup.Setup.{Setup}
 use Rattle.semantics.specs.Recursion.{shape_of}
-use Rattle.semantics.specs.Trends.{chosen, Trend}
+use Rattle.semantics.specs.Trends.{Trend}
 use Rattle.semantics.proofs.Shapes.{template_fits}
 use Rattle.semantics.proofs.Testing.{first, last, next, trend_tested}
 use Rattle.semantics.specs.Core.{goes, goes_on}

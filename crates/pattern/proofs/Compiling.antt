@@ -4,14 +4,14 @@ use Rattle.events.specs.declared.EventType.{EventType}
 use Rattle.events.specs.declared.EventType.TheVariants.{Test}
 use Rattle.events.specs.Types.{code_of}
 use Rattle.grammar.specs.Templates.{start_of, end_of, Step, Onward, Leads}
-use Rattle.grammar.specs.Trees.{part, Tree, name, plus, seq, two, more, names, In, here, there, Distinct}
+use Rattle.grammar.specs.Trees.{part, Tree, name, plus, seq, two, names, In, here, Distinct}
 use Rattle.grammar.proofs.Paths.{in_left, in_right, words_are_paths}
 use Rattle.pattern.specs.declared.node.Node.{Node}
-use Rattle.pattern.specs.declared.node.Node.TheVariants.{Name, Plus, Pair, More}
+use Rattle.pattern.specs.declared.node.Node.TheVariants.{Name, Plus}
 use Rattle.pattern.specs.declared.template.Span.{Span}
 use Rattle.pattern.specs.declared.template.Marks.{Marks}
 use Rattle.pattern.specs.declared.template.Template.{Template}
-use Rattle.pattern.specs.Compiled.{Marked, MarkedStep, HasStep, Named, Added, TemplateOf, DecidesWords}
+use Rattle.pattern.specs.Compiled.{Marked, MarkedStep, HasStep, Added, TemplateOf, DecidesWords}
 use Rattle.pattern.specs.Nodes.{lengthened, repeat_last, join_last, trees, last_of}
 use Rattle.pattern.proofs.Holding.{held_pop}
 use Rattle.pattern.proofs.Stepping.{in_either, only_one}

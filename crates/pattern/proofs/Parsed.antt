@@ -1,14 +1,11 @@
 -- What reading keeps from token to token, and what it comes to at the end.
-use Rattle.std.proofs.Common.{◌≡◌, ℕ, suc, ◌+◌, ◌<◌, ◌≤◌, Bool, true, false, ◌⊎◌, List, [], ◌∷◌, ◌++◌, map, length, get_or, drop, Some, None, Ok, Err, Option, sym, refl, ap, ◌∙◌, subst, inl, inr, ⊎_elim, arith}
-use native.Mathlib.Decide.{ℕ_discrete}
-use Rattle.std.proofs.lemmas.Bool.{cases_lt, cases_eq, true≢false, false≢true}
+use Rattle.std.proofs.Common.{◌≡◌, ℕ, ◌+◌, ◌≤◌, true, false, List, [], ◌∷◌, ◌++◌, map, length, drop, Some, None, Ok, Err, Option, sym, refl, ap, ◌∙◌, subst, arith}
+use Rattle.std.proofs.lemmas.Bool.{true≢false, false≢true}
 use Rattle.grammar.specs.declared.Symbol.{Symbol}
 use Rattle.grammar.specs.declared.Symbol.TheVariants.{Open, Close, Comma, Plus}
 use Rattle.grammar.specs.Trees.{part, Tree}
-use Rattle.grammar.specs.Grammar.{Writes, Begins}
-use Rattle.grammar.specs.Limits.{opened, named}
 use Rattle.grammar.specs.Texts.{spelled}
-use Rattle.grammar.proofs.Machine.{Frame, group, first, second, later, Mode, want, want_open, ended, done, Next, dead, live, going, start, run, result, result_in, begins, opened_is, sound, complete}
+use Rattle.grammar.proofs.Machine.{Frame, Mode, want, want_open, ended, done, Next, dead, live, going, result, result_in, begins, opened_is, sound, complete}
 use Rattle.pattern.specs.declared.node.Node.{Node}
 use Rattle.pattern.specs.declared.parser.Parser.{Parser}
 use Rattle.pattern.specs.declared.refusal.ReadFault.{ReadFault}
@@ -18,8 +15,8 @@ use Rattle.pattern.specs.declared.token.Placed.{Placed}
 use Rattle.pattern.specs.declared.token.Token.{Token}
 use Rattle.pattern.specs.declared.token.Token.TheVariants as token
 use Rattle.pattern.specs.Nodes.{trees, last_of, tree_of}
-use Rattle.pattern.specs.Parsing.{View, Verdict, view, begun, verdict, verdict_at, is_whole_at, is_whole, Stopped, by_word, by_verdict}
-use Rattle.pattern.specs.Reading.{Letter, Letters, OtherFirst, Stretch, at, Cut, end, space, run as run_of, single, Unknown, Passes, Stops, byte, word, grammar, depth, repeat, Outcome, accepted, refused, LeadsTo, whole, broken_off, next, stop, Reads, by_stretches}
+use Rattle.pattern.specs.Parsing.{View, view, begun, verdict, verdict_at, is_whole_at, is_whole, Stopped, by_word, by_verdict}
+use Rattle.pattern.specs.Reading.{Letters, Stretch, at, Cut, Unknown, Stops, byte, word, grammar, depth, repeat, Outcome, accepted, refused, LeadsTo, whole, broken_off, next, stop, Reads, by_stretches}
 use Rattle.pattern.specs.Refusals.{number_of}
 use Rattle.pattern.specs.Tokens.{bytes, Worded, FirstIs, IsToken, IsWrong}
 use Rattle.pattern.proofs.Stepping.{bracket, mode_of, waiting, ready, Kept, Gone, Stepped, stepped}

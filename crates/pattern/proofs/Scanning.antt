@@ -8,7 +8,7 @@ use Rattle.pattern.specs.declared.node.Node.TheVariants.{Name}
 use Rattle.pattern.specs.declared.parser.Bracket.{Bracket}
 use Rattle.pattern.specs.declared.parser.Mode.TheVariants.{Atom}
 use Rattle.pattern.specs.declared.refusal.ReadRefusal.TheVariants.{Repeat}
-use Rattle.pattern.specs.Parsing.{View, is_name, has_name, names_part}
+use Rattle.pattern.specs.Parsing.{is_name, has_name, names_part}
 
 pub scan_more : (k : EventType) (ns : List Node) (i : ℕ) (d : Node) (b : Bool) → i < length ns → b ≡ is_name k (get_or ns i d) → has_name k (drop i ns) ≡ (b || has_name k (drop (i + 1) ns))
 scan_more k ns i d b h e = at_drop_more (has_name k) ns i d h ∙ ap (λ t. t || has_name k (drop (i + 1) ns)) (sym e)

@@ -1,5 +1,5 @@
 -- The pattern of one type name is one that reading can give.
-use Rattle.std.proofs.Common.{◌≤◌, [], length, arith}
+use Rattle.std.proofs.Common.{◌≤◌, length, arith}
 use Rattle.events.specs.declared.EventType.{EventType}
 use Rattle.events.specs.declared.EventType.TheVariants.{Test, Miss, Drop, Back, Batt, Mains, Call, Talk, Done, Visit}
 use Rattle.grammar.specs.Limits.{Valid}

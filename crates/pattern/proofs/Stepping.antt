@@ -1,7 +1,7 @@
 -- The parser follows the token machine: what its lists stand for before and after one token.
-use Rattle.std.proofs.Common.{◌≡◌, ℕ, ◌+◌, ◌<◌, ◌≤◌, Bool, true, false, cond, ◌||◌, eqb, ltb, ◌⊎◌, List, [], ◌∷◌, ◌++◌, map, length, Ok, Err, Result, sym, refl, ap, ◌∙◌, subst, inl, inr, ⊎_elim, append-nil, arith}
+use Rattle.std.proofs.Common.{◌≡◌, ◌<◌, ◌≤◌, Bool, true, false, cond, eqb, ltb, ◌⊎◌, List, [], ◌∷◌, ◌++◌, map, length, Ok, Err, sym, refl, ap, ◌∙◌, subst, inl, inr, ⊎_elim, append-nil, arith}
 use lib.ListN.{length-map}
-use Rattle.std.proofs.lemmas.Bool.{ltb-true, ltb-false, eqb-true, eqb-false, eq-eqb, or_cases, or_parts}
+use Rattle.std.proofs.lemmas.Bool.{ltb-true, ltb-false, eqb-true, eqb-false, or_cases, or_parts}
 use Rattle.events.specs.declared.EventType.{EventType}
 use Rattle.events.specs.Types.{code_of}
 use Rattle.grammar.specs.declared.Symbol.{Symbol}
@@ -11,7 +11,7 @@ use Rattle.grammar.specs.Grammar.{Begins}
 use Rattle.grammar.specs.Limits.{opened, named}
 use Rattle.grammar.proofs.Paths.{same_code, in_left, in_right}
 use Rattle.grammar.proofs.Derivations.{names_among_append}
-use Rattle.grammar.proofs.Machine.{Frame, group, first, second, later, Mode, want, want_open, ended, done, State, Next, dead, live, going, start, forward, run, run_append, alive, begins, opened_is, advance_in, closed, parted}
+use Rattle.grammar.proofs.Machine.{Frame, group, first, second, later, Mode, want, want_open, ended, done, Next, dead, live, going, start, forward, run, run_append, alive, begins, opened_is, advance_in, closed, parted}
 use Rattle.pattern.specs.declared.node.Node.{Node}
 use Rattle.pattern.specs.declared.node.Node.TheVariants as node
 use Rattle.pattern.specs.declared.parser.Bracket.{Bracket}
@@ -19,10 +19,9 @@ use Rattle.pattern.specs.declared.parser.Bracket.TheVariants.{Group, First, Seco
 use Rattle.pattern.specs.declared.parser.Mode as code
 use Rattle.pattern.specs.declared.parser.Mode.TheVariants.{Part, Atom, Repeated}
 use Rattle.pattern.specs.declared.parser.Mode.TheVariants as mode
-use Rattle.pattern.specs.declared.refusal.ReadRefusal.{ReadRefusal}
 use Rattle.pattern.specs.declared.refusal.ReadRefusal.TheVariants as refusal
 use Rattle.pattern.specs.Nodes.{lengthened, repeat_last, join_last, trees}
-use Rattle.pattern.specs.Parsing.{View, Verdict, is_name, has_name, verdict_at, opens, closes, parts}
+use Rattle.pattern.specs.Parsing.{View, Verdict, has_name, verdict_at, closes, parts}
 use Rattle.pattern.specs.Reading.{Fresh}
 
 abbrev pub bracket : Frame → Bracket

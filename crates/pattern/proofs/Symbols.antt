@@ -1,12 +1,12 @@
 -- The symbol of a token is the one with the same bytes.
-use Rattle.std.proofs.Common.{◌≡◌, ℕ, ◌≤◌, List, [], ◌∷◌, Some, None, sym, ap, ◌∙◌, subst, arith}
+use Rattle.std.proofs.Common.{◌≡◌, ℕ, ◌≤◌, List, [], ◌∷◌, Some, None, sym, ap, subst, arith}
 use Rattle.grammar.specs.declared.Symbol.{Symbol}
 use Rattle.grammar.specs.declared.Symbol.TheVariants as symbol
 use Rattle.grammar.specs.Texts.{spelled}
 use Rattle.pattern.specs.declared.token.Token.{Token}
 use Rattle.pattern.specs.declared.token.Token.TheVariants.{Word, Open, Close, Comma, Plus}
 use Rattle.pattern.specs.Reading.{Letters, Unknown}
-use Rattle.pattern.specs.Tokens.{bytes, Worded, Lettered, Symbolic}
+use Rattle.pattern.specs.Tokens.{bytes, Worded, Symbolic}
 
 pub known_symbol : (t : Token) (x : Symbol) → Symbolic t (Some x) → spelled x ≡ bytes t
 known_symbol (Word w) x s = s.1

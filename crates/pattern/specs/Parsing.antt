@@ -1,6 +1,6 @@
 -- How the parser goes from token to token, on its lists: a tool of the proof, cited by private functions only.
 -- What a reading answers is said in Reading.
-use Rattle.std.specs.Prelude.{◌≡◌, ℕ, Bool, true, false, cond, ◌||◌, List, [], ◌∷◌, length, Ok, Err, Result, ◌==◌, nat_lt}
+use Rattle.std.specs.Prelude.{◌≡◌, Bool, true, false, cond, ◌||◌, List, [], ◌∷◌, length, Ok, Err, Result, ◌==◌, nat_lt}
 use Rattle.events.specs.declared.EventType.{EventType}
 use Rattle.events.specs.Types.{code_of}
 use Rattle.grammar.specs.declared.Symbol.{Symbol}

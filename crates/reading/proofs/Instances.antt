@@ -11,7 +11,7 @@ use Rattle.records.specs.declared.record.Output.TheVariants as output
 use Rattle.records.specs.declared.record.RuleSetting.{RuleSetting}
 use Rattle.records.specs.declared.record.RuleSetting.TheVariants.{Falling, Near}
 use Rattle.records.specs.Fields.{row, Fit, Begins}
-use Rattle.records.specs.Formats.{front_fields, mark_hd, mark_ev, mark_tk, mark_rs, mark_ft, kind_number, rule_number, gap_fields, header_fields, input_fields, output_fields}
+use Rattle.records.specs.Formats.{front_fields, mark_hd, mark_ev, mark_tk, mark_rs, mark_ft, kind_number, rule_number, gap_fields, input_fields, output_fields}
 use Rattle.reading.specs.Raw.{gap_if}
 use Rattle.reading.specs.Reading.{ask_either, ask_header, HeaderAt, InputAt, OutputAt, Answer, ReadsHeader, ReadsInput, ReadsOutput, SameHeader, Exact}
 use Rattle.reading.proofs.Apart.{row_same, stretch_same}

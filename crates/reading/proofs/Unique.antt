@@ -1,6 +1,5 @@
 -- One answer for each input, if a record that stands there is the only one and leaves no question with the answer no.
 use Rattle.std.proofs.Common.{◌≡◌, ℕ, ◌⊎◌, List, [], ◌∷◌, Ok, Err, sym, refl, ◌∙◌, inl, inr}
-use Rattle.records.specs.declared.refusal.ReadFault.{ReadFault}
 use Rattle.records.specs.declared.refusal.ReadRefusal.{ReadRefusal}
 use Rattle.records.specs.declared.refusal.ReadRefusal.TheVariants.{End, Mark, Short, Kind, Rule}
 use Rattle.reading.specs.Reading.{Questions, FirstNo, Answer, Reads, Exact}

@@ -1,6 +1,6 @@
 -- A history: the calls of an engine with their answers, the newest first, and what stands in it.
 -- After take(e) kept, tick(200) and close, the accepted events are e alone, the clock is 200 and the first open window is 1.
-use Rattle.std.specs.Prelude.{ℕ, suc, ◌+◌, ◌*◌, Bool, true, false, cond, not, ◌&&◌, ◌||◌, List, [], ◌∷◌, reverse, length, Some, None, Ok, Err, filter, Option, Result, nat_eq, nat_le, nat_lt}
+use Rattle.std.specs.Prelude.{ℕ, suc, ◌+◌, Bool, false, cond, not, ◌&&◌, ◌||◌, List, [], ◌∷◌, Some, None, Ok, Err, filter, Option, Result, nat_eq, nat_le, nat_lt}
 use Rattle.events.specs.declared.event.Event.{Event}
 use Rattle.events.specs.Types.{code_of}
 use Rattle.grammar.specs.Trees.{names}

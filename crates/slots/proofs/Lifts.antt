@@ -1,9 +1,9 @@
 -- The least of the lifts is the least lift.
-use Rattle.std.proofs.Common.{◌≡◌, ℕ, ◌≤◌, Bool, cond, ◌&&◌, leb, ◌⊎◌, List, [], ◌∷◌, Some, None, Option, refl, ap, inl, inr, ⊎_elim, arith}
+use Rattle.std.proofs.Common.{◌≡◌, ℕ, ◌≤◌, ◌&&◌, leb, ◌⊎◌, List, [], ◌∷◌, Some, None, Option, refl, ap, inl, inr, ⊎_elim, arith}
 use Rattle.std.proofs.lemmas.Bool.{cond_both, leb-true, leb-false, le-leb, and_parts, and_from, both_ways}
 use Rattle.std.proofs.lemmas.Bool.Decides.{nat_tests}
 use Rattle.events.specs.declared.event.Event.{Event}
-use Rattle.grammar.specs.Trees.{In, here, there}
+use Rattle.grammar.specs.Trees.{here, there}
 use Rattle.semantics.specs.Meaning.{Present, LeastLift}
 use Rattle.slots.specs.Lifts.{lesser, least}
 

@@ -1,5 +1,5 @@
 -- A row grows by one at its newest end as a loop passes one more event; what its ends come to is the window's total.
-use Rattle.std.proofs.Common.{◌≡◌, ℕ, ◌+◌, ◌<◌, Bool, true, false, cond, ◌&&◌, eqb, ltb, leb, List, [], ◌∷◌, ◌++◌, reverse, length, get_or, take, sym, refl, ap, ◌∙◌, ap₂, arith}
+use Rattle.std.proofs.Common.{◌≡◌, ℕ, ◌+◌, ◌<◌, Bool, true, false, cond, ◌&&◌, eqb, ltb, leb, List, [], ◌∷◌, reverse, length, get_or, take, sym, refl, ap, ◌∙◌, ap₂, arith}
 use Rattle.std.proofs.lemmas.List.{take_more, reverse-append, length-reverse, length-take-le}
 use Rattle.std.proofs.lemmas.Bool.{lt-ltb}
 use Rattle.events.specs.declared.event.Event.{Event}
@@ -8,7 +8,7 @@ use Rattle.grammar.specs.Trees.{In, here, there}
 use Rattle.pattern.specs.declared.template.Template.{Template}
 use Rattle.rules.specs.Rules.{Rule}
 use Rattle.semantics.specs.declared.setup.Setup.{Setup}
-use Rattle.semantics.specs.Recursion.{Valued, shape_of, total}
+use Rattle.semantics.specs.Recursion.{shape_of, total}
 use Rattle.semantics.specs.Windows.{window_start, window_end}
 use Rattle.weights.specs.Kinds.{Kind}
 use Rattle.semantics.specs.Core.{gathered}

@@ -1,4 +1,4 @@
-use Rattle.std.proofs.Common.{◌≡◌, ◌-◌, take, drop, sym, subst, arith}
+use Rattle.std.proofs.Common.{◌≡◌, ◌-◌, take, drop, subst, arith}
 use Rattle.pattern.specs.Reading.{Letters}
 use Rattle.pattern.proofs.Cutting.{letters_more, stops_here, stops_end}
 use Rattle.pattern.proofs.scan.past_letters.Goals as goal

@@ -1,4 +1,4 @@
-use Rattle.std.proofs.Common.{◌≡◌, ℕ, ◌+◌, get_or, arith}
+use Rattle.std.proofs.Common.{get_or, arith}
 use Rattle.pattern.proofs.Cutting.{word_first, single_first, sign_first, unknown_single, run_some}
 use Rattle.pattern.specs.Reading.{Letter}
 use Rattle.pattern.proofs.scan.token_at.Goals as goal

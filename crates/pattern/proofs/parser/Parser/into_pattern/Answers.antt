@@ -1,4 +1,3 @@
-use Rattle.std.proofs.Common.{arith}
 use Rattle.pattern.proofs.parser.Parser.into_pattern.Goals as goal
 
 pub invariant_of-result : goal.invariant_of-result

@@ -1,6 +1,6 @@
-use Rattle.std.proofs.Common.{◌≡◌, Ok, sym, ap, ◌∙◌, arith}
+use Rattle.std.proofs.Common.{Ok, sym, ap, ◌∙◌, arith}
 use Rattle.pattern.specs.declared.parser.Mode.TheVariants.{Atom}
-use Rattle.pattern.specs.Parsing.{View, Verdict, view}
+use Rattle.pattern.specs.Parsing.{Verdict, view}
 use Rattle.pattern.proofs.Scanning.{names_by}
 use Rattle.pattern.proofs.parser.Parser.name.Goals as goal
 

@@ -1,5 +1,5 @@
 use Rattle.std.proofs.Common.{refl}
-use Rattle.pattern.proofs.Cutting.{first_behind, none_left}
+use Rattle.pattern.proofs.Cutting.{none_left}
 use Rattle.pattern.proofs.scan.Tokens.next.Goals as goal
 
 pub returns-then-place-text : goal.returns-then-place-text

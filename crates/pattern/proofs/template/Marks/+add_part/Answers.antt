@@ -1,7 +1,7 @@
-use Rattle.std.proofs.Common.{◌≡◌, ◌-◌, List, ◌∷◌, reverse, take, ⊎_elim, arith}
+use Rattle.std.proofs.Common.{◌≡◌, ◌-◌, ◌∷◌, reverse, take, ⊎_elim, arith}
 use Rattle.pattern.specs.declared.node.Node.TheVariants.{Name, Plus, Pair, More}
 use Rattle.pattern.specs.Nodes.{lengthened, trees}
-use Rattle.grammar.specs.Trees.{part, Tree, seq, two}
+use Rattle.grammar.specs.Trees.{seq, two}
 use Rattle.pattern.proofs.Compiling.{adds_name, adds_plus, adds_join, paired, longer, last_node}
 use Rattle.pattern.proofs.template.Marks.+add_part.Goals as goal
 
