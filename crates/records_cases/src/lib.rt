@@ -46,6 +46,9 @@ const RESULT: [u8; 17] = [
 
 const FAULT: [u8; 7] = [0x46, 0x54, 33, 0, 1, 0, 0];
 
+/// What is left behind a whole record.
+const NOTHING: &[u8] = b"";
+
 const AN_EVENT: EventRecord = EventRecord {
     time: 7,
     lift: 258,
@@ -126,11 +129,11 @@ fn header_of(kind: u8, rule: u8) -> [u8; 14] {
 #[test]
 fn headers(rt: HostRuntime) {
     for (bytes, expected) in [(&NEAR[..], A_NEAR), (&FALLING, A_FALLING)] {
-        assert_eq!(rt; header(bytes), Some((expected, &[])));
+        assert_eq!(rt; header(bytes), Some((expected, NOTHING)));
         let mut out = [7; 30];
         assert_eq!(rt; write(expected, &mut out), Ok(bytes.len()));
         assert!(rt; out.starts_with(bytes));
-        assert_eq!(rt; &out[23..30], &[7; 7]);
+        assert_eq!(rt; &out[23..30], [7; 7].as_slice());
     }
 }
 
@@ -150,7 +153,7 @@ fn headers_not_written(rt: HostRuntime) {
     assert_eq!(rt; write(fits, &mut out[0..272]), Err(WriteRefusal::Room));
     assert_eq!(rt; &out, &[7; 273]);
     assert_eq!(rt; write(fits, &mut out), Ok(273));
-    assert_eq!(rt; header(&out), Some((fits, &[])));
+    assert_eq!(rt; header(&out), Some((fits, NOTHING)));
 }
 
 #[test]
@@ -159,13 +162,13 @@ fn inputs_and_outputs(rt: HostRuntime) {
         (&EVENT[..], Input::Event(AN_EVENT)),
         (&TICK, Input::Tick(A_TICK)),
     ] {
-        assert_eq!(rt; input(bytes), Some((expected, &[])));
+        assert_eq!(rt; input(bytes), Some((expected, NOTHING)));
     }
     for (bytes, expected) in [
         (&RESULT[..], Output::Result(A_RESULT)),
         (&FAULT, Output::Fault(A_FAULT)),
     ] {
-        assert_eq!(rt; output(bytes), Some((expected, &[])));
+        assert_eq!(rt; output(bytes), Some((expected, NOTHING)));
     }
 }
 
