@@ -17,7 +17,7 @@ pub trait Follow {
     fn follows(&self, earlier: Event, later: Event) -> bool
         ensures meaning { Decides result (rule.meaning self.now earlier later) }
         ensures says { result ≡ rule.says self.now earlier later }
-        ensures same { self.now ≡ self.now };
+        ensures same { self.exit.now ≡ self.entry.now };
 
     ghost decides: { Decided rule };
 }

@@ -1,5 +1,5 @@
 -- The parts of a value of LeastWays: what the pair read, the join and the chain have for weight and ways.
-use denote.Struct.Props.{props}
+use Rattle.std.proofs.Props.{props}
 use Rattle.std.specs.Prelude.{◌≡◌, ℕ, ◌+◌, ◌*◌, ◌<◌, min, cond, ◌&&◌, ◌⊎◌, nat_lt}
 use Rattle.std.proofs.Common.{inl, inr, ⊎_elim, ap₂, subst₂, mul-pos, arith}
 use Rattle.std.proofs.Math.Decide.{dec_lt}
