@@ -19,7 +19,8 @@ use Rattle.weights.specs.Most.{most_of}
 use Rattle.semantics.specs.Meaning.{Defined}
 use Rattle.semantics.specs.Trends.{All}
 use Rattle.semantics.specs.Windows.{window_start}
-use Rattle.examples.specs.Examples.{KindName, count, least, least_ways, most, kind_of, RuleName, falls, gap, rule_of, Example, setup, AsDefined, examples}
+use Rattle.examples.specs.Examples.{KindName, count, least, least_ways, most, kind_of, RuleName, falls, gap, rule_of, Example, setup, AsDefined, MostTells, examples}
+use Rattle.examples.proofs.Patterns.{HasTree, batts_pattern, drop_miss_pattern, drop_misses_pattern}
 use Rattle.examples.proofs.Replaying.{replayed, replay_defined}
 
 laws_of : (k : KindName) → Laws (kind_of k)
@@ -63,9 +64,23 @@ module _ (p : Pattern) where
       let h = replayed kind rule (setup x p) x.pattern (reverse x.calls) in
       (λ e. subst (Defined kind None rule (setup x p)) (sym (reverse-reverse h)) (replay_defined kind rule (setup x p) (laws_of x.kind) (decided_of x.rule) x.pattern e (reverse x.calls)), replay_right xs)
 
-each : (xs : List Example) → ((p : Pattern) → All (DefinedBy p) xs) → All AsDefined xs
-each [] f = tt
-each (x ∷ xs) f = (λ p. (f p).0, each xs (λ p. (f p).1))
+abbrev HasPattern : Example → Type 0
+HasPattern x = HasTree x.pattern
+
+each : (xs : List Example) → All HasPattern xs → ((p : Pattern) → All (DefinedBy p) xs) → All AsDefined xs
+each [] ps f = tt
+each (x ∷ xs) ps f = (record { pattern = ps.0; answers = λ p. (f p).0 }, each xs ps.1 (λ p. (f p).1))
+
+patterns : All HasPattern examples
+patterns =
+    let b = batts_pattern in
+    let d = drop_miss_pattern in
+    let m = drop_misses_pattern in
+    (b, (b, (b, (b, (b, (b, (b, (b, (b, (b, (m, (d, (d, (d, (d, (d, (b, (b, tt))))))))))))))))))
 
 pub marked : All AsDefined examples
-marked = each examples (λ p. subst (All (DefinedBy p)) (come_out p) (replay_right p examples))
+marked = each examples patterns (λ p. subst (All (DefinedBy p)) (come_out p) (replay_right p examples))
+
+pub most_tells : MostTells
+unfolding most_of
+most_tells = (refl, refl)

@@ -23,7 +23,7 @@ use Rattle.weights.specs.Count.{count_of, count_kind}
 use Rattle.weights.specs.Kinds.{Kind}
 use Rattle.weights.specs.Least.{least_of, least_kind}
 use Rattle.weights.specs.LeastWays.{least_ways_of, least_ways_kind}
-use Rattle.weights.specs.Most.{most_of, most_kind}
+use Rattle.weights.specs.Most.{most_of, most_kind, most_report}
 use Rattle.semantics.specs.declared.refusal.CallRefusal.TheVariants.{Late, Window}
 use Rattle.semantics.specs.declared.refusal.Taken.TheVariants.{Kept}
 use Rattle.semantics.specs.declared.setup.Setup.{Setup}
@@ -84,9 +84,10 @@ setup x p = record {
   places = (lit≤ tt, lit≤ tt);
 }
 
--- each answer is the one defined, by whatever pattern has this tree, as Pattern::parse gives one for its text
-abbrev pub AsDefined : Example → Type 0
-AsDefined x = (p : Pattern) → tree p ≡ x.pattern → Defined (kind_of x.kind) None (rule_of x.rule) (setup x p) (reverse x.calls)
+-- some pattern has the example's tree, and by every one that has it each answer is the one defined
+pub record AsDefined (x : Example) : Type 0 where
+  pub pattern : (p : Pattern) × (tree p ≡ x.pattern)
+  pub answers : (p : Pattern) → tree p ≡ x.pattern → Defined (kind_of x.kind) None (rule_of x.rule) (setup x p) (reverse x.calls)
 
 -- an event of lift 7; a number too large for its field would be cut
 abbrev pub event : EventType → (time level load : ℕ) → Event
@@ -185,3 +186,7 @@ examples =
     (batt 99 ∷ window 0 (count_of 1) ∷ take (event Batt 100 0 1) (Err Late)
     ∷ ticked 100 ∷ closed ∷ batt 100 ∷ window 1 (count_of 1) ∷ result 0 7 (Err Window) ∷ [])
     ∷ []
+
+-- a report tells Most's results in the first and the eighth example so: of nothing 0 and 0, of T itself and 1
+abbrev pub MostTells : Type 0
+MostTells = (most_report.tells (most_of None) ≡ record { first = 0; second = 0 }) × (most_report.tells (most_of (Some top)) ≡ record { first = top; second = 1 })

@@ -7,7 +7,7 @@ use Rattle.semantics.specs.declared.setup.Setup.{Setup}
 unfoldable pub window_start : {R : Type 0} → Setup R → ℕ → ℕ
 window_start s k = s.origin + k * s.slide
 
--- the pane of a time: how many whole slides lie between the origin and it
+-- the pane of a time: how many whole slides lie between the origin and it, none where it is before the origin
 unfoldable pub pane : {R : Type 0} → Setup R → ℕ → ℕ
 pane s time = (time - s.origin) / s.slide
 

@@ -26,7 +26,7 @@ impl<R> Setup<R> {
         self.begins(u64::from(window) + u64::from(self.span))
     }
 
-    /// How many whole slides lie between the origin and this time.
+    /// How many whole slides lie between the origin and this time, 0 where it is before the origin.
     pub fn pane(&self, time: u32) -> u32
         ensures { result ≡ pane self.now time }
     {
