@@ -1,7 +1,8 @@
 -- The event types: the code that stands for each in a record, and its name in a pattern text.
 -- BATT, a reading of the battery, has code 4.
-use Rattle.std.specs.Prelude.{ℕ, List, codes}
+use Rattle.std.specs.Prelude.{◌≡◌, ◌≢◌, ℕ, List, codes, Result, MatchResult}
 use Rattle.events.specs.declared.EventType.{EventType}
+use Rattle.events.specs.declared.UnknownType.{UnknownType}
 use Rattle.events.specs.declared.EventType.TheVariants.{Test, Miss, Drop, Back, Batt, Mains, Call, Talk, Done, Visit}
 
 abbrev pub code_of : EventType → ℕ
@@ -27,3 +28,11 @@ name_of Call = codes "CALL"
 name_of Talk = codes "TALK"
 name_of Done = codes "DONE"
 name_of Visit = codes "VISIT"
+
+-- the type with this code, or that no type has it
+abbrev pub OfCode : ℕ → Result EventType UnknownType → Type 0
+OfCode code r = MatchResult r (λ k. code_of k ≡ code) (λ e. (k : EventType) → code_of k ≢ code)
+
+-- the type with this name, or that no type has it
+abbrev pub OfName : List ℕ → Result EventType UnknownType → Type 0
+OfName name r = MatchResult r (λ k. name_of k ≡ name) (λ e. (k : EventType) → name_of k ≢ name)

@@ -1,7 +1,7 @@
 use Rattle.std.proofs.Common.{◌≡◌, ℕ, ◌<◌, get_or}
 use Rattle.events.specs.Types.{name_of}
 use Rattle.events.specs.declared.EventType.TheVariants.{Test}
-use Rattle.events.proofs.EventType.from_name.Given as goal
+use Rattle.events.proofs.EventTypeTryFromRefSliceU8.try_from.Given as goal
 
 -- none of the types so far has the name
 abbrev pub invariant-loop-kind : goal.invariant-loop-kind

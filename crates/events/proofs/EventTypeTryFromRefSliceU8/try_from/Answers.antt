@@ -1,4 +1,4 @@
-use Rattle.events.proofs.EventType.from_name.Goals as goal
+use Rattle.events.proofs.EventTypeTryFromRefSliceU8.try_from.Goals as goal
 use Rattle.events.specs.declared.EventType.TheVariants.{Test, Miss, Drop, Back, Batt, Mains, Call, Talk, Done, Visit}
 use Rattle.std.proofs.Common.{arith}
 
