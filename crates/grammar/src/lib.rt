@@ -7,7 +7,7 @@ pub mod words;
 use events::EventType;
 
 /// A token of a pattern text, once its word is known.
-#[derive(Clone, Copy)]
+#[derive(Clone, Copy, Debug, PartialEq, Eq)]
 pub enum Symbol {
     Name(EventType),
     Seq,

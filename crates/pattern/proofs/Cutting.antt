@@ -1,9 +1,13 @@
 -- How a text's first stretch is cut off.
-use Rattle.std.proofs.Common.{◌≡◌, ℕ, suc, ◌+◌, ◌-◌, ◌<◌, ◌≤◌, ◌⊎◌, List, [], ◌∷◌, ◌++◌, length, get_or, drop, sym, ap, ◌∙◌, subst, inl, inr, ⊎_elim, add-one, arith, length-drop, take-append-drop}
+use Rattle.std.proofs.Common.{◌≡◌, ℕ, zero, suc, Bool, true, false, ◌==◌, leb, take, ◌+◌, ◌-◌, ◌<◌, ◌≤◌, ◌⊎◌, List, [], ◌∷◌, ◌++◌, length, get_or, drop, sym, ap, ◌∙◌, subst, inl, inr, ⊎_elim, add-one, arith, length-drop, take-append-drop}
 use Rattle.std.specs.List.{between}
 use Rattle.std.proofs.lemmas.List.{drop_more, drop-drop, length-take-le, drop_all}
 use Rattle.std.proofs.lemmas.List.Edits.{between_more, length-between}
-use Rattle.std.proofs.lemmas.Bool.{cases_lt, cases_eq}
+use Rattle.std.specs.Char.{is_ascii_uppercase}
+use Rattle.std.specs.List.{prefix_len}
+use Rattle.std.proofs.lemmas.List.{get_or-drop}
+use Rattle.std.proofs.lemmas.List.Sums.{prefix_len-le-length, prefix_len_passes, prefix_len_stops}
+use Rattle.std.proofs.lemmas.Bool.{cases_lt, cases_eq, eqb-true, eqb-false, leb-true, le-leb, and_parts, and_from, true≢false}
 use Rattle.events.specs.declared.EventType.{EventType}
 use Rattle.events.specs.declared.EventType.TheVariants.{Test, Miss, Drop, Back, Batt, Mains, Call, Talk, Done, Visit}
 use Rattle.events.specs.Types.{name_of}
@@ -70,10 +74,6 @@ cut_all p (b ∷ bs) =
     (λ other. ⊎_elim (λ e. (rest.0, subst (λ x. Cut p (x ∷ bs) rest.0) (sym e) (space rest.1))) (λ solid. (at p (b ∷ []) ∷ rest.0, single other solid rest.1)) (cases_eq b 32))
     (letter_or_not b)
 
--- spaces in front do not matter
-pub first_behind : (text : List ℕ) (from place : ℕ) (w : List ℕ) (to : ℕ) → from ≤ place → ((ss : List Stretch) → Cut place (drop place text) ss → Cut from (drop from text) ss) → FirstIs text place place w to → FirstIs text from place w to
-first_behind text from place w to h skip f = record { inside = f.inside; ahead = h; on = f.on; ends = f.ends; within = f.within; rest = f.rest; cut = λ ss c. skip (at place w ∷ ss) (f.cut ss c) }
-
 pub none_left : (text : List ℕ) (i : ℕ) → length text ≤ i → Cut i (drop i text) []
 none_left text i h = subst (λ bs. Cut i bs []) (sym (drop_all i text h)) end
 
@@ -112,3 +112,47 @@ unknown_single b o c m p Plus e = p (sym (ap (λ l. get_or l 0 0) e))
 pub run_some : (text : List ℕ) (i j : ℕ) → i < length text → Letter (get_or text i 0) → i ≤ j → OtherFirst (drop j text) → i < j
 run_some text i j h one k other =
     ⊎_elim (λ lt. lt) (λ ge. let same : j ≡ i = omega arith in absurd (subst OtherFirst (drop_more text i 0 h) (subst (λ n. OtherFirst (drop n text)) same other) one)) (cases_lt i j)
+
+-- A count of the bytes behind a place that are alike.
+
+upper_letter : (b : ℕ) → is_ascii_uppercase b ≡ true → Letter b
+upper_letter b e = let both = and_parts (leb 65 b) (leb b 90) e in (leb-true 65 b both.0, leb-true b 90 both.1)
+
+other_upper : (b : ℕ) → is_ascii_uppercase b ≡ false → Letter b → ⊥
+other_upper b e l = true≢false (sym (and_from (leb 65 b) (leb b 90) (le-leb 65 b l.0) (le-leb b 90 l.1)) ∙ e)
+
+module _ (p : ℕ → Bool) (text : List ℕ) (i n : ℕ) (within : i ≤ length text) (counted : n ≡ prefix_len p (drop i text)) where
+  pub count_within : i + n ≤ length text
+  count_within = omega (arith, prefix_len-le-length p (drop i text), length-drop i text)
+
+  count_passes : (j : ℕ) → j < n → p (get_or text (i + j) 0) ≡ true
+  count_passes j h = ap p (sym (get_or-drop i text j 0)) ∙ prefix_len_passes p (drop i text) j 0 (omega arith)
+
+  count_stops : i + n < length text → p (get_or text (i + n) 0) ≡ false
+  count_stops h = ap p (sym (get_or-drop i text n 0) ∙ ap (λ k. get_or (drop i text) k 0) counted) ∙ prefix_len_stops p (drop i text) 0 (omega (arith, length-drop i text))
+
+spaces_cut : (text : List ℕ) (i k : ℕ) → i + k ≤ length text → ((j : ℕ) → j < k → get_or text (i + j) 0 ≡ 32) → (ss : List Stretch) → Cut (i + k) (drop (i + k) text) ss → Cut i (drop i text) ss
+spaces_cut text i zero h are ss c = subst (λ n. Cut n (drop n text) ss) (omega arith) c
+spaces_cut text i (suc k) h are ss c =
+    spaces_cut text i k (omega arith) (λ j l. are j (omega arith)) ss
+    (cut_space text (i + k) (omega arith) (are k (omega arith)) ss (subst (λ n. Cut n (drop n text) ss) (omega arith) c))
+
+letters_within : (text : List ℕ) (i k : ℕ) → i + k ≤ length text → ((j : ℕ) → j < k → Letter (get_or text (i + j) 0)) → Letters (between i (i + k) text)
+letters_within text i zero h are = let none : 0 ≡ i + 0 - i = omega arith in subst (λ n. Letters (take n (drop i text))) none tt
+letters_within text i (suc k) h are =
+    subst (λ n. Letters (between i n text)) (omega arith)
+    (letters_more text i (i + k) (omega arith) (omega arith) (letters_within text i k (omega arith) (λ j l. are j (omega arith))) (are k (omega arith)))
+
+module _ (text : List ℕ) (i n : ℕ) (within : i ≤ length text) where
+  pub spaces_counted : n ≡ prefix_len (λ b. b == 32) (drop i text) → (ss : List Stretch) → Cut (i + n) (drop (i + n) text) ss → Cut i (drop i text) ss
+  spaces_counted counted = spaces_cut text i n (count_within (λ b. b == 32) text i n within counted) (λ j h. eqb-true _ 32 (count_passes (λ b. b == 32) text i n within counted j h))
+
+  pub solid_behind : n ≡ prefix_len (λ b. b == 32) (drop i text) → i + n < length text → get_or text (i + n) 0 ≡ 32 → ⊥
+  solid_behind counted h e = eqb-false _ 32 (count_stops (λ b. b == 32) text i n within counted h) e
+
+  pub letters_counted : n ≡ prefix_len is_ascii_uppercase (drop i text) → Letters (between i (i + n) text)
+  letters_counted counted = letters_within text i n (count_within is_ascii_uppercase text i n within counted) (λ j h. upper_letter _ (count_passes is_ascii_uppercase text i n within counted j h))
+
+  pub other_behind : n ≡ prefix_len is_ascii_uppercase (drop i text) → OtherFirst (drop (i + n) text)
+  other_behind counted =
+      ⊎_elim (λ lt. stops_here text (i + n) lt (λ l. other_upper _ (count_stops is_ascii_uppercase text i n within counted lt) l)) (λ ge. stops_end text (i + n) ge) (cases_lt (i + n) (length text))

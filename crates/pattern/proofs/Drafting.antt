@@ -1,7 +1,7 @@
 -- How the parts of a pattern come to stand before each other in a draft.
 use Rattle.std.proofs.Common.{◌≡◌, ℕ, ◌+◌, ◌-◌, ◌≤◌, true, false, ◌⊎◌, List, [], ◌∷◌, ◌++◌, reverse, length, take, drop, sym, refl, ap, ◌∙◌, subst, ap₂, inl, inr, append_assoc, append-nil, arith, length-append}
 use borrow.Rule.Slice.PartMut.{put_mid}
-use Rattle.std.proofs.lemmas.List.{drop_at, drop-drop, length-take-le, nil_from_length, take_rest}
+use Rattle.std.proofs.lemmas.List.{drop_at, drop-drop, length-take-le, nil_from_length}
 use Rattle.std.proofs.lemmas.Bool.{true≢false, false≢true}
 use Rattle.events.specs.declared.EventType.{EventType}
 use Rattle.grammar.specs.declared.Symbol.{Symbol}
@@ -23,10 +23,6 @@ put_front bytes at w copy copied fits within =
     let same : start + (at - start) ≡ at = omega arith in
     let behind = drop-drop (at - start) start bytes ∙ ap (λ n. drop n bytes) same in
     drop_at (take start bytes) _ start (length-take-le start bytes (omega arith)) ∙ ap₂ (λ a b. a ++ b) copied behind
-
--- the draft's text as the code reads it
-pub rest_of : (bytes : List ℕ) (at : ℕ) → length bytes ≡ 250 → take (250 - at) (drop at bytes) ≡ drop at bytes
-rest_of bytes at long = subst (λ n. take (n - at) (drop at bytes) ≡ drop at bytes) long (take_rest bytes at)
 
 -- first these tokens, then others before them
 then_puts : (xs ys : List Symbol) {d e f : Draft} → Puts ys d e → Puts xs e f → Puts (xs ++ ys) d f

@@ -4,12 +4,10 @@ pub mod Cutting
 pub mod Drafting
 pub mod Held
 pub mod Holding
-pub mod Marking
 pub mod OneOutcome
 pub mod Parsed
 pub mod RoundTrip
 pub mod Scanning
-pub mod Singles
 pub mod Stepping
 pub mod Symbols
 pub mod Validity

@@ -1,5 +1,5 @@
 -- What reading keeps from token to token, and what it comes to at the end.
-use Rattle.std.proofs.Common.{◌≡◌, ℕ, ◌+◌, ◌≤◌, true, false, List, [], ◌∷◌, ◌++◌, map, length, drop, Some, None, Ok, Err, Option, sym, refl, ap, ◌∙◌, subst, arith}
+use Rattle.std.proofs.Common.{◌≡◌, ℕ, ◌≤◌, true, false, List, [], ◌∷◌, ◌++◌, map, length, drop, Some, None, Ok, Err, Option, sym, refl, ap, ◌∙◌, subst, arith, length-append}
 use Rattle.std.proofs.lemmas.Bool.{true≢false, false≢true}
 use Rattle.grammar.specs.declared.Symbol.{Symbol}
 use Rattle.grammar.specs.declared.Symbol.TheVariants.{Open, Close, Comma, Plus}
@@ -19,6 +19,7 @@ use Rattle.pattern.specs.Parsing.{View, view, begun, verdict, verdict_at, is_who
 use Rattle.pattern.specs.Reading.{Letters, Stretch, at, Cut, Unknown, Stops, byte, word, grammar, depth, repeat, Outcome, accepted, refused, LeadsTo, whole, broken_off, next, stop, Reads, by_stretches}
 use Rattle.pattern.specs.Refusals.{number_of}
 use Rattle.pattern.specs.Tokens.{bytes, Worded, FirstIs, IsToken, IsWrong}
+use Rattle.pattern.proofs.Holding.{held_length}
 use Rattle.pattern.proofs.Stepping.{bracket, mode_of, waiting, ready, Kept, Gone, Stepped, stepped}
 
 -- the parser has taken some tokens of the text, and whatever the rest leads to, the text reads so
@@ -29,7 +30,7 @@ pub record Sofar (text : List ℕ) (from : ℕ) (p : Parser) : Type 0 where
   pub same_mode : p.mode ≡ mode_of in_mode
   pub same_brackets : (view p).brackets ≡ map bracket in_frames
   pub kept : Kept so_far in_mode in_frames (view p).nodes
-  pub small : p.nodes.len ≤ from
+  pub small : length so_far ≤ from
   pub rest : (ss : List Stretch) (o : Outcome) → Cut from (drop from text) ss → LeadsTo (length text) so_far ss o → Reads text o
 
 module _ (text : List ℕ) (from : ℕ) (p : Parser) (now : Sofar text from p) where
@@ -49,8 +50,8 @@ module _ (text : List ℕ) (from : ℕ) (p : Parser) (now : Sofar text from p) w
   wrong_byte place h = stopped place _ _ _ h.first (byte h.other h.unknown)
 
   -- the first token passes
-  pub one_more : (q : Parser) (t : Placed) (to : ℕ) (x : Symbol) → IsToken text from t.place t.token to → spelled x ≡ bytes t.token → verdict (view p) x ≡ Ok (view q) → q.nodes.len ≤ p.nodes.len + 1 → Sofar text to q
-  one_more q t to x is e v grown =
+  pub one_more : (q : Parser) (t : Placed) (to : ℕ) (x : Symbol) → IsToken text from t.place t.token to → spelled x ≡ bytes t.token → verdict (view p) x ≡ Ok (view q) → Sofar text to q
+  one_more q t to x is e v =
       let gone : Gone now.so_far x (view q) = subst (Stepped now.so_far x) v (judged x) in
       let on = gone.kept.reached in
       record {
@@ -60,9 +61,13 @@ module _ (text : List ℕ) (from : ℕ) (p : Parser) (now : Sofar text from p) w
         same_mode = gone.same_mode;
         same_brackets = gone.same_brackets;
         kept = gone.kept;
-        small = omega (arith, now.small, is.first.ahead, is.first.on);
+        small = omega (arith, now.small, is.first.ahead, is.first.on, length-append now.so_far (x ∷ []));
         rest = λ ss o c l. now.rest (at t.place (bytes t.token) ∷ ss) o (is.first.cut ss c) (next x (record { known = e; begins = begins (now.so_far ++ x ∷ []) on; shallow = omega (arith, gone.kept.few, opened_is (now.so_far ++ x ∷ []) on); fresh = gone.fresh }) l);
       }
+
+-- each token has a byte at least, and gives a node at most
+pub nodes_within : {text : List ℕ} {from : ℕ} {p : Parser} → Sofar text from p → p.nodes.len ≤ from
+nodes_within {p = p} now = omega (arith, now.small, now.kept.no_more, held_length p.nodes.items p.nodes.len (omega (arith, p.nodes.sized, p.nodes.within)))
 
 -- an unknown word has letters
 lettered : (t : Token) → Worded t → Unknown (bytes t) → Letters (bytes t)
@@ -136,14 +141,14 @@ module _ (text : List ℕ) (from : ℕ) (p : Parser) (now : Sofar text from p) (
       let same : live s.0 ≡ going now.in_mode now.in_frames = sym s.1 ∙ now.kept.reached in
       not_whole now.in_mode now.in_frames t (sym asked ∙ e) (sym (ap result_of same) ∙ s.2))
 
-pub begun_so : (text : List ℕ) (p : Parser) → 1 ≤ length text → length text ≤ 250 → view p ≡ begun → p.nodes.len ≡ 0 → Sofar text 0 p
-begun_so text p some few e z = record {
+pub begun_so : (text : List ℕ) (p : Parser) → 1 ≤ length text → length text ≤ 250 → view p ≡ begun → Sofar text 0 p
+begun_so text p some few e = record {
   so_far = [];
   in_mode = want;
   in_frames = [];
   same_mode = ap (λ (v : View). v.mode) e;
   same_brackets = ap (λ (v : View). v.brackets) e;
-  kept = subst (λ (v : View). Kept [] want [] v.nodes) (sym e) (record { reached = refl; holds = refl; few = omega arith; seen = λ k h. absurd (false≢true h); unseen = λ k h i. elim i [ ] });
-  small = omega (arith, z);
+  kept = subst (λ (v : View). Kept [] want [] v.nodes) (sym e) (record { reached = refl; holds = refl; few = omega arith; no_more = omega arith; seen = λ k h. absurd (false≢true h); unseen = λ k h i. elim i [ ] });
+  small = omega arith;
   rest = λ ss o c l. by_stretches some few c l;
 }

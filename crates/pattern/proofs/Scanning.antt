@@ -1,31 +1,37 @@
--- Whether a type stands among nodes: along the list, and from its other end.
-use Rattle.std.proofs.Common.{◌≡◌, ℕ, ◌+◌, ◌<◌, Bool, true, false, cond, ◌||◌, List, [], ◌∷◌, ◌++◌, reverse, length, get_or, drop, Ok, Err, sym, refl, ap, ◌∙◌}
-use mathlib.Core.List.{reverse-cons}
+-- Whether a type stands among nodes, whichever of them comes first.
+use Rattle.std.proofs.Common.{◌≡◌, Bool, eqb, List, reverse, sym, refl, ap, ap₂, ◌∙◌}
+use Rattle.std.specs.List.{list_any}
+use Rattle.std.proofs.lemmas.List.Sorted.{list_any-IsPermutation, IsPermutation-reverse}
+use denote.Enum.Declared.{tag_of}
 use Rattle.events.specs.declared.EventType.{EventType}
-use Rattle.std.proofs.lemmas.List.{at_drop_more}
+use Rattle.events.specs.declared.EventType.TheVariants.{Test, Miss, Drop, Back, Batt, Mains, Call, Talk, Done, Visit}
+use Rattle.events.specs.contracts.EventType.{the_type}
+use Rattle.events.specs.Types.{code_of}
 use Rattle.pattern.specs.declared.node.Node.{Node}
-use Rattle.pattern.specs.declared.node.Node.TheVariants.{Name}
-use Rattle.pattern.specs.declared.parser.Bracket.{Bracket}
-use Rattle.pattern.specs.declared.parser.Mode.TheVariants.{Atom}
-use Rattle.pattern.specs.declared.refusal.ReadRefusal.TheVariants.{Repeat}
-use Rattle.pattern.specs.Parsing.{is_name, has_name, names_part}
+use Rattle.pattern.specs.declared.node.Node.TheVariants.{Name, Plus, Pair, More}
+use Rattle.pattern.specs.contracts.node.NodePartialEq.TheImpl.{ghosts}
+use Rattle.pattern.specs.Parsing.{is_name, has_name}
 
-pub scan_more : (k : EventType) (ns : List Node) (i : ℕ) (d : Node) (b : Bool) → i < length ns → b ≡ is_name k (get_or ns i d) → has_name k (drop i ns) ≡ (b || has_name k (drop (i + 1) ns))
-scan_more k ns i d b h e = at_drop_more (has_name k) ns i d h ∙ ap (λ t. t || has_name k (drop (i + 1) ns)) (sym e)
+tag_is_code : (k : EventType) → tag_of the_type k ≡ code_of k
+tag_is_code Test = refl
+tag_is_code Miss = refl
+tag_is_code Drop = refl
+tag_is_code Back = refl
+tag_is_code Batt = refl
+tag_is_code Mains = refl
+tag_is_code Call = refl
+tag_is_code Talk = refl
+tag_is_code Done = refl
+tag_is_code Visit = refl
 
-has_last : (k : EventType) (ns : List Node) (n : Node) → has_name k (ns ++ n ∷ []) ≡ (is_name k n || has_name k ns)
-has_last k [] n = refl
-has_last k (m ∷ ns) n = ap (λ t. is_name k m || t) (has_last k ns n) ∙ swap (is_name k m) (is_name k n) (has_name k ns)
-  where
-    swap : (a b c : Bool) → (a || (b || c)) ≡ (b || (a || c))
-    swap true true c = refl
-    swap true false c = refl
-    swap false true c = refl
-    swap false false c = refl
+-- the derived comparison with a name
+equals_name : (k : EventType) (n : Node) → ghosts.eq n (Name k) ≡ is_name k n
+equals_name k (Name j) = ap₂ eqb (tag_is_code j) (tag_is_code k)
+equals_name k Plus = refl
+equals_name k Pair = refl
+equals_name k More = refl
 
-pub has_reverse : (k : EventType) (ns : List Node) → has_name k (reverse ns) ≡ has_name k ns
-has_reverse k [] = refl
-has_reverse k (n ∷ ns) = ap (has_name k) (reverse-cons n ns) ∙ has_last k (reverse ns) n ∙ ap (λ t. is_name k n || t) (has_reverse k ns)
-
-pub names_by : (k : EventType) (bs : List Bracket) (ns ms : List Node) (b : Bool) → ms ≡ ns → b ≡ has_name k ms → names_part k bs (reverse ns) ≡ cond b (Err Repeat) (Ok (record { mode = Atom; brackets = bs; nodes = Name k ∷ reverse ns }))
-names_by k bs ns ms b same e = ap (λ t. cond t (Err Repeat) (Ok (record { mode = Atom; brackets = bs; nodes = Name k ∷ reverse ns }))) (has_reverse k ns ∙ ap (has_name k) (sym same) ∙ sym e)
+-- whether nodes have a name, the oldest first, is whether they do with the newest first
+pub names_same : (k : EventType) (ns ms : List Node) (b c : Bool) → ms ≡ ns → b ≡ list_any (λ n. ghosts.eq n (Name k)) ms → b ≡ c → has_name k (reverse ns) ≡ c
+names_same k ns ms b c same found is =
+    sym (list_any-IsPermutation (is_name k) ns (reverse ns) (IsPermutation-reverse ns)) ∙ ap (has_name k) (sym same) ∙ (λ i. list_any (λ n. sym (equals_name k n) i) ms) ∙ sym found ∙ is

@@ -1,6 +1,7 @@
 -- How the parser goes from token to token, on its lists: a tool of the proof, cited by private functions only.
 -- What a reading answers is said in Reading.
-use Rattle.std.specs.Prelude.{◌≡◌, Bool, true, false, cond, ◌||◌, List, [], ◌∷◌, length, Ok, Err, Result, ◌==◌, nat_lt}
+use Rattle.std.specs.Prelude.{◌≡◌, Bool, true, false, cond, List, [], ◌∷◌, length, Ok, Err, Result, ◌==◌, nat_lt}
+use Rattle.std.specs.List.{list_any}
 use Rattle.events.specs.declared.EventType.{EventType}
 use Rattle.events.specs.Types.{code_of}
 use Rattle.grammar.specs.declared.Symbol.{Symbol}
@@ -38,8 +39,7 @@ is_name k node.More = false
 
 -- k stands among the nodes
 abbrev pub has_name : EventType → List Node → Bool
-has_name k [] = false
-has_name k (n ∷ ns) = is_name k n || has_name k ns
+has_name k = list_any (is_name k)
 
 abbrev pub Verdict : Type 0
 Verdict = Result View ReadRefusal

@@ -10,7 +10,7 @@ use Rattle.pattern.specs.Refusals.{number_of}
 use Rattle.pattern.specs.Stacks.{held}
 
 abbrev pub tree : Pattern → Tree part
-tree p = tree_of (held p.nodes p.len)
+tree p = tree_of (held p.nodes.items p.nodes.len)
 
 abbrev pub outcome : Result Pattern ReadFault → Outcome
 outcome (Ok p) = accepted (tree p)

@@ -1,6 +1,6 @@
 //! What one token does to a parser.
 ghost use Rattle.std.specs.Prelude.{◌≡◌, ◌+◌, ◌<◌, ◌≤◌};
-ghost use Rattle.pattern.specs.Parsing.{view, begun, is_name, has_name, opens, closes, parts, names_part, at_part, at_seq, at_atom, at_end, verdict, Follows};
+ghost use Rattle.pattern.specs.Parsing.{view, begun, opens, closes, parts, names_part, verdict, Follows};
 
 use crate::node::Node;
 use crate::parser::{Bracket, Mode, Parser};
@@ -14,8 +14,7 @@ const MOST_OPEN: usize = 16;
 
 impl Parser {
     pub fn new() -> Parser
-        ensures empty { result.nodes.len ≡ 0 }
-        ensures begun { view result ≡ begun }
+        ensures { view result ≡ begun }
     {
         Parser {
             nodes: Stack::new(Node::Plus),
@@ -25,9 +24,9 @@ impl Parser {
     }
 
     /// Opens a bracket, if it is not one too many.
+    // The count is asked after the grammar has said yes, by a guard.
     fn open(&mut self, bracket: Bracket) -> Result<(), ReadRefusal>
-        ensures grown { self.new.nodes.len ≤ self.old.nodes.len + 1 }
-        ensures verdict { Follows (opens bracket (view self.old).brackets (view self.old).nodes) result self.new }
+        ensures { Follows (opens bracket (view self.old).brackets (view self.old).nodes) result self.new }
     {
         match self.brackets.len() {
             count if count < MOST_OPEN => {
@@ -39,10 +38,11 @@ impl Parser {
         }
     }
 
+    // That a node more has room is a premise, here and below: it follows from the count of tokens so far,
+    // which the parser does not keep.
     fn close(&mut self) -> Result<(), ReadRefusal>
         requires { self.old.nodes.len < 250 }
-        ensures grown { self.new.nodes.len ≤ self.old.nodes.len + 1 }
-        ensures verdict { Follows (closes (view self.old).brackets (view self.old).nodes) result self.new }
+        ensures { Follows (closes (view self.old).brackets (view self.old).nodes) result self.new }
     {
         let Some(bracket) = self.brackets.pop() else {
             return Err(ReadRefusal::Grammar);
@@ -59,8 +59,7 @@ impl Parser {
 
     fn comma(&mut self) -> Result<(), ReadRefusal>
         requires { self.old.nodes.len < 250 }
-        ensures grown { self.new.nodes.len ≤ self.old.nodes.len + 1 }
-        ensures verdict { Follows (parts (view self.old).brackets (view self.old).nodes) result self.new }
+        ensures { Follows (parts (view self.old).brackets (view self.old).nodes) result self.new }
     {
         let Some(bracket) = self.brackets.pop() else {
             return Err(ReadRefusal::Grammar);
@@ -83,10 +82,9 @@ impl Parser {
 
     fn name(&mut self, kind: EventType) -> Result<(), ReadRefusal>
         requires { self.old.nodes.len < 250 }
-        ensures grown { self.new.nodes.len ≤ self.old.nodes.len + 1 }
-        ensures verdict { Follows (names_part kind (view self.old).brackets (view self.old).nodes) result self.new }
+        ensures { Follows (names_part kind (view self.old).brackets (view self.old).nodes) result self.new }
     {
-        if names(self.nodes.as_slice(), kind) {
+        if self.nodes.as_slice().contains(&Node::Name(kind)) {
             return Err(ReadRefusal::Repeat);
         }
         self.nodes.push(Node::Name(kind));
@@ -94,97 +92,27 @@ impl Parser {
         Ok(())
     }
 
-    fn at_part(&mut self, symbol: Symbol) -> Result<(), ReadRefusal>
+    /// Takes one token more, or says why it cannot.
+    pub fn accept(&mut self, symbol: Symbol) -> Result<(), ReadRefusal>
         requires { self.old.nodes.len < 250 }
-        ensures grown { self.new.nodes.len ≤ self.old.nodes.len + 1 }
-        ensures verdict { Follows (at_part (view self.old).brackets (view self.old).nodes symbol) result self.new }
+        ensures { Follows (verdict (view self.old) symbol) result self.new }
     {
-        match symbol {
-            Symbol::Name(kind) => self.name(kind),
-            Symbol::Open => self.open(Bracket::Group),
-            Symbol::Seq => {
+        match (self.mode, symbol) {
+            (Mode::Part, Symbol::Name(kind)) => self.name(kind),
+            (Mode::Part, Symbol::Open) => self.open(Bracket::Group),
+            (Mode::Part, Symbol::Seq) => {
                 self.mode = Mode::Seq;
                 Ok(())
             }
-            Symbol::Close | Symbol::Comma | Symbol::Plus => Err(ReadRefusal::Grammar),
-        }
-    }
-
-    fn at_seq(&mut self, symbol: Symbol) -> Result<(), ReadRefusal>
-        ensures grown { self.new.nodes.len ≤ self.old.nodes.len + 1 }
-        ensures verdict { Follows (at_seq (view self.old).brackets (view self.old).nodes symbol) result self.new }
-    {
-        match symbol {
-            Symbol::Open => self.open(Bracket::First),
-            Symbol::Name(_) | Symbol::Seq | Symbol::Close | Symbol::Comma | Symbol::Plus => {
-                Err(ReadRefusal::Grammar)
-            }
-        }
-    }
-
-    fn after_atom(&mut self, symbol: Symbol) -> Result<(), ReadRefusal>
-        requires { self.old.nodes.len < 250 }
-        ensures grown { self.new.nodes.len ≤ self.old.nodes.len + 1 }
-        ensures verdict { Follows (at_atom (view self.old).brackets (view self.old).nodes symbol) result self.new }
-    {
-        match symbol {
-            Symbol::Plus => {
+            (Mode::Seq, Symbol::Open) => self.open(Bracket::First),
+            (Mode::Atom, Symbol::Plus) => {
                 self.nodes.push(Node::Plus);
                 self.mode = Mode::Repeated;
                 Ok(())
             }
-            Symbol::Name(_) | Symbol::Seq | Symbol::Open | Symbol::Close | Symbol::Comma => {
-                self.after_part(symbol)
-            }
+            (Mode::Atom | Mode::Repeated, Symbol::Close) => self.close(),
+            (Mode::Atom | Mode::Repeated, Symbol::Comma) => self.comma(),
+            _ => Err(ReadRefusal::Grammar),
         }
     }
-
-    fn after_part(&mut self, symbol: Symbol) -> Result<(), ReadRefusal>
-        requires { self.old.nodes.len < 250 }
-        ensures grown { self.new.nodes.len ≤ self.old.nodes.len + 1 }
-        ensures verdict { Follows (at_end (view self.old).brackets (view self.old).nodes symbol) result self.new }
-    {
-        match symbol {
-            Symbol::Close => self.close(),
-            Symbol::Comma => self.comma(),
-            Symbol::Name(_) | Symbol::Seq | Symbol::Open | Symbol::Plus => Err(
-                ReadRefusal::Grammar,
-            ),
-        }
-    }
-
-    /// Takes one token more, or says why it cannot.
-    pub fn accept(&mut self, symbol: Symbol) -> Result<(), ReadRefusal>
-        requires { self.old.nodes.len < 250 }
-        ensures grown { self.new.nodes.len ≤ self.old.nodes.len + 1 }
-        ensures verdict { Follows (verdict (view self.old) symbol) result self.new }
-    {
-        match self.mode {
-            Mode::Part => self.at_part(symbol),
-            Mode::Seq => self.at_seq(symbol),
-            Mode::Atom => self.after_atom(symbol),
-            Mode::Repeated => self.after_part(symbol),
-        }
-    }
-}
-
-fn is_name(node: Node, kind: EventType) -> bool
-    ensures { result ≡ is_name kind node }
-{
-    match node {
-        Node::Name(other) => other.code() == kind.code(),
-        Node::Plus | Node::Pair | Node::More => false,
-    }
-}
-
-/// Whether the type stands among the nodes.
-fn names(nodes: &[Node], kind: EventType) -> bool
-    ensures { result ≡ has_name kind nodes.now }
-{
-    for node in nodes {
-        if is_name(*node, kind) {
-            return true;
-        }
-    }
-    false
 }

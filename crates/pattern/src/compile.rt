@@ -1,8 +1,7 @@
 //! From a pattern to its template.
-ghost use Rattle.std.specs.Prelude.{◌≡◌, ℕ, ◌≤◌, ◌⊎◌, ◌↔◌, List, ◌∷◌, reverse, length, take, Decides};
+ghost use Rattle.std.specs.Prelude.{◌≡◌, ℕ, ◌<◌, ◌⊎◌, ◌↔◌, reverse, length, IfSome, Decides};
 ghost use Rattle.events.specs.Types.{code_of};
-ghost use Rattle.pattern.specs.Compiled.{Marked, MarkedStep, HasType, HasStep, Added, TemplateOf, DecidesWords};
-ghost use Rattle.grammar.specs.Trees.{part, Tree};
+ghost use Rattle.pattern.specs.Compiled.{Marked, MarkedStep, HasType, HasStep, AddsLast, TemplateOf, DecidesWords};
 ghost use Rattle.pattern.specs.Nodes.{trees};
 ghost use Rattle.pattern.specs.Patterns.{tree};
 
@@ -18,7 +17,7 @@ impl Marks {
     {
         Marks {
             types: [false; 10],
-            steps: [false; 100],
+            steps: [[false; 10]; 10],
         }
     }
 
@@ -26,7 +25,7 @@ impl Marks {
         ensures types { (a : ℕ) → Marked self.new.types a ↔ (Marked self.old.types a ⊎ (a ≡ code_of kind)) }
         ensures steps { self.new.steps ≡ self.old.steps }
     {
-        let at = kind.code() as usize;
+        let at = u8::from(kind) as usize;
         self.types[at] = true;
     }
 
@@ -34,48 +33,39 @@ impl Marks {
         ensures steps { (a b : ℕ) → MarkedStep self.new.steps a b ↔ (MarkedStep self.old.steps a b ⊎ ((a ≡ code_of from) × (b ≡ code_of to))) }
         ensures types { self.new.types ≡ self.old.types }
     {
-        let at = 10 * from.code() as usize + to.code() as usize;
-        self.steps[at] = true;
+        let row = &mut self.steps[u8::from(from) as usize];
+        row[u8::from(to) as usize] = true;
     }
 
-    /// Adds the part whose last node stands before `end`.
-    fn add_part(&mut self, nodes: &[Node], end: usize) -> Span
-        requires { end ≤ length nodes.now }
-        ensures within { result.from ≤ end }
-        ensures adds { (t : Tree part) (rest : List (Tree part)) → trees (reverse (take end nodes.now)) ≡ t ∷ rest → Added nodes.now self.old self.new t rest result }
+    /// Adds the last part that the nodes stand for, and answers its span with the nodes before it.
+    fn add_part<'a>(&mut self, nodes: &'a [Node]) -> Option<(Span, &'a [Node])>
+        ensures fewer { IfSome result (λ p. length p.1.now < length nodes.now) }
+        ensures adds { AddsLast (trees (reverse nodes.now)) self.old self.new result }
     {
-        if end == 0 {
-            let (start, end) = (EventType::Test, EventType::Test);
-            return Span {
-                start,
-                end,
-                from: 0,
-            };
-        }
-        let last = end - 1;
-        match nodes[last] {
+        let (node, before) = nodes.split_last()?;
+        match *node {
             Node::Name(kind) => {
                 self.add_type(kind);
-                Span {
+                let span = Span {
                     start: kind,
                     end: kind,
-                    from: last,
-                }
+                };
+                Some((span, before))
             }
             Node::Plus => {
-                let span = self.add_part(nodes, last);
+                let (span, rest) = self.add_part(before)?;
                 self.add_step(span.end, span.start);
-                span
+                Some((span, rest))
             }
             Node::Pair | Node::More => {
-                let right = self.add_part(nodes, last);
-                let left = self.add_part(nodes, right.from);
+                let (right, behind) = self.add_part(before)?;
+                let (left, rest) = self.add_part(behind)?;
                 self.add_step(left.end, right.start);
-                Span {
+                let span = Span {
                     start: left.start,
                     end: right.end,
-                    from: left.from,
-                }
+                };
+                Some((span, rest))
             }
         }
     }
@@ -87,19 +77,13 @@ impl Pattern {
         ensures template { TemplateOf (tree self.now) result }
         ensures words { DecidesWords (tree self.now) result }
     {
-        compile(self)
-    }
-}
-
-fn compile(pattern: &Pattern) -> Template
-    ensures { TemplateOf (tree pattern.now) result }
-{
-    let mut marks = Marks::none();
-    let span = marks.add_part(&pattern.nodes, pattern.len);
-    Template {
-        start: span.start,
-        end: span.end,
-        marks,
+        let mut marks = Marks::none();
+        let (span, _none) = marks.add_part(self.nodes.as_slice()).unwrap();
+        Template {
+            start: span.start,
+            end: span.end,
+            marks,
+        }
     }
 }
 
@@ -119,6 +103,7 @@ impl Template {
     }
 
     /// Whether the type with this code is one that the pattern names.
+    // Codes and no types, here and below: the code of an event in memory may be that of no type.
     pub fn has_type(&self, code: u8) -> bool
         ensures { Decides result (HasType self.now code) }
     {
@@ -132,6 +117,6 @@ impl Template {
     {
         let from = from as usize;
         let to = to as usize;
-        from < 10 && to < 10 && self.marks.steps[10 * from + to]
+        from < 10 && to < 10 && self.marks.steps[from][to]
     }
 }

@@ -1,7 +1,7 @@
 //! A pattern as a list of nodes in postfix order.
 use events::EventType;
 
-#[derive(Clone, Copy)]
+#[derive(Clone, Copy, Debug, PartialEq, Eq)]
 pub enum Node {
     /// A type name: one part more.
     Name(EventType),

@@ -3,7 +3,7 @@ use crate::node::Node;
 use crate::stack::Stack;
 
 /// What may come next.
-#[derive(Clone, Copy)]
+#[derive(Clone, Copy, Debug, PartialEq, Eq)]
 pub enum Mode {
     /// A part must come.
     Part,
@@ -16,7 +16,7 @@ pub enum Mode {
 }
 
 /// An open bracket.
-#[derive(Clone, Copy)]
+#[derive(Clone, Copy, Debug, PartialEq, Eq)]
 pub enum Bracket {
     /// A plain one.
     Group,

@@ -12,25 +12,24 @@ use crate::parser::{Mode, Parser};
 use crate::pattern::Pattern;
 use crate::refusal::{ReadFault, ReadRefusal};
 use crate::scan::Tokens;
+use crate::stack::Stack;
 use crate::token::Placed;
 use events::EventType;
 
 impl Parser {
     /// Takes one token more, or says which question it fails and where.
+    // Room for a node is a premise, as at `accept`.
     fn take(&mut self, placed: Placed) -> Result<(), ReadFault>
         requires { self.old.nodes.len < 250 }
-        ensures grown { self.new.nodes.len ≤ self.old.nodes.len + 1 }
-        ensures took { Took (view self.old) placed.entry result (view self.new) }
+        ensures { Took (view self.old) placed.entry result (view self.new) }
     {
         let place = placed.place;
         let Some(symbol) = placed.token.symbol() else {
             let refusal = ReadRefusal::Word;
             return Err(ReadFault { refusal, place });
         };
-        match self.accept(symbol) {
-            Ok(()) => Ok(()),
-            Err(refusal) => Err(ReadFault { refusal, place }),
-        }
+        self.accept(symbol)
+            .map_err(|refusal| ReadFault { refusal, place })
     }
 
     /// Whether the tokens so far are a pattern.
@@ -43,17 +42,18 @@ impl Parser {
         }
     }
 
+    // No `From`, which has no premises.
     fn into_pattern(self) -> Pattern
         requires one { length (trees (view self).nodes) ≡ 1 }
         requires valid { Valid (tree_of (view self).nodes) }
         ensures { tree result ≡ tree_of (view self).nodes }
     {
-        let nodes = self.nodes.items;
-        let len = self.nodes.len;
-        Pattern { nodes, len }
+        Pattern { nodes: self.nodes }
     }
 }
 
+// The same clause at three functions: `parse_sized` asks for the length, this one the rest, and the last
+// clauses of `parse` rest on it.
 fn parse_tokens(text: &[u8]) -> Result<Pattern, ReadFault>
     requires some { 1 ≤ length text.now }
     requires few { length text.now ≤ 250 }
@@ -77,13 +77,14 @@ impl Pattern {
     pub fn single(kind: EventType) -> Pattern
         ensures { tree result ≡ name kind }
     {
-        Pattern {
-            nodes: [Node::Name(kind); 250],
-            len: 1,
-        }
+        let mut nodes = Stack::new(Node::Plus);
+        nodes.push(Node::Name(kind));
+        Pattern { nodes }
     }
 
     /// The pattern that a text writes, or the first question that the text fails, and where.
+    // A function with three clauses, and no `TryFrom`, whose one ghost member would run them together; no
+    // `FromStr`, which takes UTF-8 alone.
     pub fn parse(text: &[u8]) -> Result<Pattern, ReadFault>
         ensures reads { Reads text.now (outcome result) }
         ensures only { (o : Outcome) → Reads text.now o → o ≡ outcome result }

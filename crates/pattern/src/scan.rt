@@ -1,6 +1,7 @@
 //! How a text is cut into tokens.
-ghost use Rattle.std.specs.Prelude.{◌≡◌, ◌<◌, ◌≤◌, List, length, drop, ◌≢◌, slice_index};
-ghost use Rattle.std.specs.List.{between};
+ghost use Rattle.std.specs.Prelude.{◌≡◌, ◌<◌, ◌≤◌, List, length, drop, ◌≢◌, slice_index, ◌==◌};
+ghost use Rattle.std.specs.Char.{is_ascii_uppercase};
+ghost use Rattle.std.specs.List.{between, prefix_len};
 ghost use Rattle.pattern.specs.Reading.{Letters, OtherFirst, Stretch, Cut};
 ghost use Rattle.pattern.specs.Tokens.{Found, Next, Symbolic};
 ghost use Rattle.pattern.specs.declared.token.Token.TheVariants.{Word};
@@ -11,23 +12,37 @@ use events::EventType;
 use grammar::Symbol;
 
 /// The tokens of a text that are still to come.
-#[derive(Clone, Copy)]
+// The whole text and a place in it, since a refusal tells the place.
+#[derive(Clone, Copy, Debug, PartialEq, Eq)]
 pub struct Tokens<'a> {
     text: &'a [u8],
     at: usize,
+    ghost within: { at ≤ length text.now },
+}
+
+// Spaces and letters apart: a test as a parameter would have to be told in each clause below.
+fn leading_spaces(text: &[u8]) -> usize
+    ensures { result ≡ prefix_len (λ byte. byte == 32) text.now }
+{
+    text.iter().take_while(|byte| **byte == b' ').count()
+}
+
+fn leading_letters(text: &[u8]) -> usize
+    ensures { result ≡ prefix_len is_ascii_uppercase text.now }
+{
+    text.iter()
+        .take_while(|byte| byte.is_ascii_uppercase())
+        .count()
 }
 
 /// The first place from `from` on where no space stands.
 fn past_spaces(text: &[u8], from: usize) -> usize
+    requires { from ≤ length text.now }
     ensures ahead { from ≤ result }
     ensures cut { (ss : List Stretch) → Cut result (drop result text.now) ss → Cut from (drop from text.now) ss }
     ensures stops { result < length text.now → slice_index text.now result ≢ 32 }
 {
-    let mut at = from;
-    while at < text.len() && text[at] == b' ' {
-        at += 1;
-    }
-    at
+    from + leading_spaces(&text[from..])
 }
 
 /// The first place from `from` on where no letter stands.
@@ -38,11 +53,7 @@ fn past_letters(text: &[u8], from: usize) -> usize
     ensures letters { Letters (between from result text.now) }
     ensures stops { OtherFirst (drop result text.now) }
 {
-    let mut at = from;
-    while at < text.len() && text[at].is_ascii_uppercase() {
-        at += 1;
-    }
-    at
+    from + leading_letters(&text[from..])
 }
 
 /// The token at a place where no space stands, with the place behind it.
@@ -74,6 +85,7 @@ impl<'a> Tokens<'a> {
     }
 
     /// The next token, or none at the end, or the place of a byte that no pattern has.
+    // No `Iterator`, which would have to say what comes after a wrong byte: a caller writes `next()?`.
     pub fn next(&mut self) -> Result<Option<Placed<'a>>, ReadFault>
         ensures text { self.new.text.now ≡ self.old.text.now }
         ensures next { Next self.old.text.now self.old.at result self.new.at }
@@ -94,6 +106,7 @@ impl<'a> Tokens<'a> {
 
 impl Token<'_> {
     /// The symbol that the token is, or none if it is an unknown word.
+    // An `Option` and no `TryFrom`: of an unknown word the caller alone knows the place to tell.
     pub fn symbol(self) -> Option<Symbol>
         ensures { Symbolic self.entry result }
     {
@@ -114,8 +127,5 @@ fn symbol_of(word: &[u8]) -> Option<Symbol>
     if word == b"SEQ".as_slice() {
         return Some(Symbol::Seq);
     }
-    match EventType::from_name(word) {
-        Some(kind) => Some(Symbol::Name(kind)),
-        None => None,
-    }
+    EventType::try_from(word).ok().map(Symbol::Name)
 }

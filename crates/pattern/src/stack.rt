@@ -1,13 +1,30 @@
-//! A stack of at most N values, without a heap.
-ghost use Rattle.std.specs.Prelude.{◌≡◌, ◌+◌, ◌<◌, ◌≤◌, [], ◌∷◌, length, take, MatchOption};
+//! A stack of at most N values.
+ghost use Rattle.std.specs.Prelude.{◌≡◌, ◌+◌, ◌<◌, ◌≤◌, [], ◌∷◌, length, take, ⊤, MatchOption};
 ghost use Rattle.pattern.specs.Stacks.{held};
 
-#[derive(Drop)]
+use std::alloc::AllocError;
+
+// No `Vec`, since nothing here allocates, and no `ArrayVec`, since a pattern is a value that is copied.
+// No `==`, since a derived one would compare the places above `len` too.
+#[derive(Debug)]
 pub struct Stack<T, const N: usize> {
     pub(crate) items: [T; N],
     pub(crate) len: usize,
     ghost sized: { length items ≡ N },
     ghost within: { len ≤ N },
+}
+
+// `Copy` and `Clone` by hand, since none is derived for a generic struct with a ghost field.
+impl<T: Copy, const N: usize> Copy for Stack<T, N> {}
+
+impl<T: Copy, const N: usize> Clone for Stack<T, N> {
+    ghost is_clone = { λ old new. new ≡ old };
+
+    ghost is_infallible = { λ _. ⊤ };
+
+    fn clone(&self) -> Result<Stack<T, N>, AllocError> {
+        Ok(*self)
+    }
 }
 
 impl<T: Copy, const N: usize> Stack<T, N> {

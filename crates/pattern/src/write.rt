@@ -1,8 +1,8 @@
 //! Writing a pattern's text.
-ghost use Rattle.std.specs.Prelude.{◌≡◌, ◌≤◌, [], ◌∷◌, reverse, length};
+ghost use Rattle.std.specs.Prelude.{◌≡◌, ◌≤◌, [], ◌∷◌, reverse, length, Some};
 ghost use Rattle.grammar.specs.Texts.{spelled, tokens, written};
 ghost use Rattle.pattern.specs.declared.node.Node.TheVariants.{Pair, More};
-ghost use Rattle.pattern.specs.Drafts.{drafted, node_is_plus, newest_is_plus, Puts, PutsLast, operand, leading, unclosed};
+ghost use Rattle.pattern.specs.Drafts.{drafted, newest_is_plus, Puts, PutsLast, operand, leading, unclosed};
 ghost use Rattle.pattern.specs.Nodes.{trees};
 ghost use Rattle.pattern.specs.Patterns.{tree};
 ghost use Rattle.pattern.specs.Reading.{Reads, accepted};
@@ -13,8 +13,10 @@ use crate::node::Node;
 use crate::pattern::Pattern;
 use crate::refusal::WriteRefusal;
 use grammar::Symbol;
+use std::fmt;
 
 /// The text of a token.
+// A borrowed text and no `Display`: the draft is written from its end, so the length comes first.
 fn text_of(symbol: Symbol) -> &'static str
     ensures { result.now ≡ spelled symbol }
 {
@@ -28,23 +30,11 @@ fn text_of(symbol: Symbol) -> &'static str
     }
 }
 
-fn is_plus(node: Node) -> bool
-    ensures { result ≡ node_is_plus node }
-{
-    match node {
-        Node::Plus => true,
-        Node::Name(_) | Node::Pair | Node::More => false,
-    }
-}
-
 /// Whether the last part is repeated.
 fn ends_in_plus(nodes: &[Node]) -> bool
     ensures { result ≡ newest_is_plus (reverse nodes.now) }
 {
-    match nodes.split_last() {
-        Some((node, _)) => is_plus(*node),
-        None => false,
-    }
+    nodes.last() == Some(&Node::Plus)
 }
 
 impl Draft {
@@ -70,6 +60,7 @@ impl Draft {
     }
 
     /// Puts the last part that the nodes stand for, and answers the nodes before it.
+    // The clause `fewer` stands at all five functions that call one another: it is the measure of their calls.
     #[cycle(lead_more_operand_pair_part)]
     fn part<'a>(&mut self, nodes: &'a [Node]) -> &'a [Node]
         ensures fewer { length result.now ≤ length nodes.now }
@@ -154,11 +145,18 @@ impl Draft {
         }
     }
 
+    /// The text so far.
+    fn text(&self) -> &[u8]
+        ensures { result.now ≡ drafted self.now }
+    {
+        &self.bytes[self.at..]
+    }
+
     /// Copies the text to the front of the given bytes, if they hold it.
     fn copy_to(&self, out: &mut [u8]) -> Result<usize, WriteRefusal>
         ensures { Written (drafted self.now) out.old result out.new }
     {
-        let text = &self.bytes[self.at..];
+        let text = self.text();
         let n = text.len();
         if out.len() < n {
             return Err(WriteRefusal::Room);
@@ -169,13 +167,30 @@ impl Draft {
 }
 
 impl Pattern {
+    /// The pattern's text, in memory of its own.
+    fn draft(&self) -> Draft
+        ensures { drafted result ≡ written (tree self.now) }
+    {
+        let mut draft = Draft::new();
+        let _none = draft.part(self.nodes.as_slice());
+        draft
+    }
+
     /// Writes the pattern's text to the front of the given bytes and answers its length.
     pub fn write(&self, out: &mut [u8]) -> Result<usize, WriteRefusal>
         ensures text { Written (written (tree self.now)) out.old result out.new }
         ensures reads { Reads (written (tree self.now)) (accepted (tree self.now)) }
     {
-        let mut draft = Draft::new();
-        let _none = draft.part(&self.nodes[..self.len]);
-        draft.copy_to(out)
+        self.draft().copy_to(out)
+    }
+}
+
+impl fmt::Display for Pattern {
+    ghost output = { λ pattern. Some (written (tree pattern)) };
+
+    fn fmt<W: fmt::Write>(&self, f: &mut fmt::Formatter<W>) -> fmt::Result {
+        let draft = self.draft();
+        let text = str::from_utf8(draft.text()).map_err(|_| fmt::Error)?;
+        f.write_str(text)
     }
 }

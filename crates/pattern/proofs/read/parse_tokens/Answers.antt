@@ -5,7 +5,7 @@ use Rattle.pattern.specs.Parsing.{view}
 use Rattle.pattern.specs.Reading.{Cut, Reads, accepted, refused}
 use Rattle.pattern.specs.Refusals.{number_of}
 use Rattle.pattern.specs.Tokens.{IsToken, IsWrong, Next}
-use Rattle.pattern.proofs.Parsed.{Sofar, begun_so, wrong_byte, one_more, one_stop, at_end, one_part, cut_short}
+use Rattle.pattern.proofs.Parsed.{Sofar, begun_so, wrong_byte, one_more, one_stop, at_end, one_part, cut_short, nodes_within}
 use Rattle.pattern.proofs.Validity.{read_valid}
 use Rattle.pattern.proofs.read.parse_tokens.Goals as goal
 use Rattle.pattern.proofs.read.parse_tokens.Goals.{In-Some, In_default}
@@ -26,7 +26,7 @@ none c =
 pub loop-placed-init : goal.loop-placed-init
 loop-placed-init c =
     let at-start = c.new-tokens.ensures in
-    (at-start.text, omega (arith, at-start.place), subst (λ n. Sofar c.args.text.now n c.new-parser.result) (sym at-start.place) (begun_so c.args.text.now c.new-parser.result c.requires.some c.requires.few c.new-parser.ensures.begun c.new-parser.ensures.empty))
+    (at-start.text, omega (arith, at-start.place), subst (λ n. Sofar c.args.text.now n c.new-parser.result) (sym at-start.place) (begun_so c.args.text.now c.new-parser.result c.requires.some c.requires.few c.new-parser.ensures))
 
 pub returns-in_err-placed : goal.returns-in_err-placed
 returns-in_err-placed c =
@@ -39,13 +39,13 @@ pub loop-placed-preserved : goal.loop-placed-preserved
 loop-placed-preserved c =
     let inv = c.loop-placed.invariant in
     let is = token (goal.at.loop-placed-preserved c).In-Some in
-    let took = c.in_ok-take.ensures.took in
-    (c.next.ensures.text ∙ inv.0, is.first.within, one_more c.args.text.now c.loop-placed.tokens.at c.loop-placed.parser inv.2 c.take.new.self c.in-Some.placed c.next.new.self.at took.0 is took.1 took.2 c.take.ensures.grown)
+    let took = c.in_ok-take.ensures in
+    (c.next.ensures.text ∙ inv.0, is.first.within, one_more c.args.text.now c.loop-placed.tokens.at c.loop-placed.parser inv.2 c.take.new.self c.in-Some.placed c.next.new.self.at took.0 is took.1 took.2)
 
 pub returns-in_err-take : goal.returns-in_err-take
 returns-in_err-take c =
     let p = err_from_is_err_and c.from_residual-in_err-take.result c.from_residual-in_err-take.ensures.1 in
-    rw (p.1, p.2) (one_stop c.args.text.now c.loop-placed.tokens.at c.loop-placed.parser c.loop-placed.invariant.2 c.in-Some.placed c.next.new.self.at c.in_err-take.field-0.0 (token (goal.at.returns-in_err-take c).In-Some) c.in_err-take.ensures.took)
+    rw (p.1, p.2) (one_stop c.args.text.now c.loop-placed.tokens.at c.loop-placed.parser c.loop-placed.invariant.2 c.in-Some.placed c.next.new.self.at c.in_err-take.field-0.0 (token (goal.at.returns-in_err-take c).In-Some) c.in_err-take.ensures)
 
 pub returns-then-not-is_whole : goal.returns-then-not-is_whole
 returns-then-not-is_whole c = cut_short c.args.text.now c.loop-placed.tokens.at c.loop-placed.parser c.loop-placed.invariant.2 (none (goal.at.returns-then-not-is_whole c).In_default) (sym c.if-not-is_whole.ensures)

@@ -1,26 +1,23 @@
-use Rattle.std.proofs.Common.{◌≡◌, ◌-◌, take, drop, subst, arith}
-use Rattle.pattern.specs.Reading.{Letters}
-use Rattle.pattern.proofs.Cutting.{letters_more, stops_here, stops_end}
+use Rattle.std.proofs.Common.{ap, ◌∙◌, arith}
+use Rattle.std.proofs.lemmas.List.{take_rest}
+use Rattle.std.specs.Char.{is_ascii_uppercase}
+use Rattle.std.specs.List.{prefix_len}
+use Rattle.pattern.proofs.Cutting.{count_within, letters_counted, other_behind}
 use Rattle.pattern.proofs.scan.past_letters.Goals as goal
 
-pub loop-at-init : goal.loop-at-init
-loop-at-init c =
-    let none : 0 ≡ c.args.from - c.args.from = omega arith in
-    (omega arith, c.requires, subst (λ n. Letters (take n (drop c.args.from c.args.text.now))) none tt)
+pub overflow_add-result : goal.overflow_add-result
+overflow_add-result c =
+    let n = c.leading_letters.ensures ∙ ap (prefix_len is_ascii_uppercase) (take_rest c.args.text.now c.args.from) in
+    let within = count_within is_ascii_uppercase c.args.text.now c.args.from c.leading_letters.result c.requires n in
+    omega arith
 
-pub loop-at-preserved : goal.loop-at-preserved
-loop-at-preserved c =
-    let inv = c.loop-at.invariant in
-    let upper = c.if-is_ascii_uppercase.ensures.cases in
-    (omega arith, omega arith, letters_more c.args.text.now c.args.from c.loop-at.at inv.0 c.loop-at-test.true inv.2 (omega arith))
-
-pub returns-else-is_ascii_uppercase : goal.returns-else-is_ascii_uppercase
-returns-else-is_ascii_uppercase c =
-    let inv = c.loop-at.invariant in
-    let other = c.if-is_ascii_uppercase.ensures.cases in
-    record { ahead = inv.0; within = inv.1; letters = inv.2; stops = stops_here c.args.text.now c.loop-at.at c.loop-at-test.true (λ h. omega arith) }
-
-pub returns-after-loop-at : goal.returns-after-loop-at
-returns-after-loop-at c =
-    let inv = c.loop-at.invariant in
-    record { ahead = inv.0; within = inv.1; letters = inv.2; stops = stops_end c.args.text.now c.loop-at.at c.loop-at-test.false }
+pub returns : goal.returns
+returns c =
+    let text = c.args.text.now in
+    let n = c.leading_letters.ensures ∙ ap (prefix_len is_ascii_uppercase) (take_rest text c.args.from) in
+    record {
+      ahead = omega arith;
+      within = count_within is_ascii_uppercase text c.args.from c.leading_letters.result c.requires n;
+      letters = letters_counted text c.args.from c.leading_letters.result c.requires n;
+      stops = other_behind text c.args.from c.leading_letters.result c.requires n;
+    }

@@ -21,9 +21,6 @@ module _ (t : ℕ) (c : more-After-put t) where
   goes_on : (us : List (Tree part)) (e : Draft) → PutsLast unclosed (trees (reverse c.part-seq.result.now)) c.put.new.self us e → PutsLast unclosed (trees (More ∷ reverse c.args.nodes.now)) c.args.self.now us e
   goes_on us e h = join_puts lengthened unclosed joined_more (trees (reverse c.args.nodes.now)) (trees (reverse c.part-seq.result.now)) us c.args.self.now e c.part-seq.ensures.puts c.put.ensures h
 
-pub more-returns-in_default : goal.more-returns-in_default
-more-returns-in_default t c = record { fewer = c.part-seq.ensures.fewer; puts = goes_on t (goal.at.more-returns-in_default t c).After-put _ _ (no_node unclosed c.part-seq.result.now _ _ _ c.in_default.ensures.cases) }
-
 pub more-returns-in-Pair : goal.more-returns-in-Pair
 more-returns-in-Pair t c = record {
   fewer = omega (arith, c.part-seq.ensures.fewer, c.pair.ensures.fewer, c.in-Some.ensures.cases.1);
@@ -58,15 +55,6 @@ pub pair-returns : goal.pair-returns
 pair-returns t c = record {
   fewer = omega (arith, c.lead.ensures.fewer, c.part-first.ensures.fewer);
   puts = join_puts (λ a b. seq (two a b)) leading (λ a b. refl) (trees (reverse c.args.nodes.now)) (trees (reverse c.part-first.result.now)) _ c.args.self.now _ c.part-first.ensures.puts c.put.ensures c.lead.ensures.puts;
-}
-
-pub part-returns-in_default : goal.part-returns-in_default
-part-returns-in_default t c = record { fewer = omega arith; puts = no_node tokens c.args.nodes.now _ _ _ c.in_default.ensures.cases }
-
-pub part-returns-in-Name : goal.part-returns-in-Name
-part-returns-in-Name t c = record {
-  fewer = omega (arith, c.in-Some.ensures.cases.1);
-  puts = ended_by tokens c.args.nodes.now _ _ _ c.in-Some.before.now c.in-Some.node.now (Name c.in-Name.kind) c.in-Some.ensures.cases.0 c.in-Name.is (refl, c.put.ensures);
 }
 
 pub part-returns-in-Plus : goal.part-returns-in-Plus

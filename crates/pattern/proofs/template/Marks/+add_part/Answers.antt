@@ -1,38 +1,27 @@
-use Rattle.std.proofs.Common.{◌≡◌, ◌-◌, ◌∷◌, reverse, take, ⊎_elim, arith}
+use Rattle.std.proofs.Common.{reverse, refl, ⊎_elim}
+use Rattle.grammar.specs.Trees.{seq, two}
 use Rattle.pattern.specs.declared.node.Node.TheVariants.{Name, Plus, Pair, More}
 use Rattle.pattern.specs.Nodes.{lengthened, trees}
-use Rattle.grammar.specs.Trees.{seq, two}
-use Rattle.pattern.proofs.Compiling.{adds_name, adds_plus, adds_join, paired, longer, last_node}
+use Rattle.pattern.proofs.Compiling.{added_last, adds_name, adds_plus, adds_join, paired, longer}
 use Rattle.pattern.proofs.template.Marks.+add_part.Goals as goal
 
-pub returns-in-Name : goal.returns-in-Name
-returns-in-Name t c = record {
-  within = omega arith;
-  adds = λ u rest e. adds_name c.args.nodes.now c.args.self.now c.add_type.new.self c.in-Name.kind (c.args.end - 1) c.add_type.ensures.types c.add_type.ensures.steps u rest
-      (last_node c.args.nodes.now c.args.end (Name c.in-Name.kind) (λ ns. trees ns ≡ u ∷ rest) (omega arith) c.requires c.in-Name.is e);
-}
+pub returns-in-Name-clause-adds : goal.returns-in-Name-clause-adds
+returns-in-Name-clause-adds t c =
+    added_last c.args.nodes.now c.in_ok-node.before.now c.in_ok-node.node.now (Name c.in-Name.kind) _ _ _ c.in_ok-node.ensures.cases.0 c.in-Name.is
+    (adds_name c.in-Name.kind _ _ c.add_type.ensures.types c.add_type.ensures.steps, refl)
 
-pub returns-in-Plus : goal.returns-in-Plus
-returns-in-Plus t c = record {
-  within = omega (arith, c.add_part-span.ensures.within);
-  adds = λ u rest e. adds_plus c.args.nodes.now c.args.self.now c.add_part-span.new.self c.add_step.new.self c.add_part-span.result (reverse (take (c.args.end - 1) c.args.nodes.now)) c.add_part-span.ensures.adds c.add_step.ensures.steps c.add_step.ensures.types u rest
-      (last_node c.args.nodes.now c.args.end Plus (λ ns. trees ns ≡ u ∷ rest) (omega arith) c.requires c.in-Plus.is e);
-}
+pub returns-in_ok-span-in-Plus-clause-adds : goal.returns-in_ok-span-in-Plus-clause-adds
+returns-in_ok-span-in-Plus-clause-adds t c =
+    added_last c.args.nodes.now c.in_ok-node.before.now c.in_ok-node.node.now Plus _ _ _ c.in_ok-node.ensures.cases.0 c.in-Plus.is
+    (adds_plus (trees (reverse c.in_ok-node.before.now)) _ _ _ _ c.in_ok-span-in-Plus.ensures.adds c.add_step.ensures.steps c.add_step.ensures.types)
 
-pub returns-in-Pair : goal.returns-in-Pair
-returns-in-Pair t c =
-    let nodes = c.args.nodes.now in
-    let behind = reverse (take (c.args.end - 1) nodes) in
-    let right = c.add_part-right in
-    let left = c.add_part-left in
-    let step = c.add_step-in-Pair in
-    record {
-      within = omega (arith, left.ensures.within, right.ensures.within);
-      adds = λ u rest e.
-          ⊎_elim
-          (λ is. adds_join (λ x y. seq (two x y)) paired nodes c.args.self.now right.new.self left.new.self step.new.self right.result left.result behind right.ensures.adds left.ensures.adds step.ensures.steps step.ensures.types u rest
-          (last_node nodes c.args.end Pair (λ ns. trees ns ≡ u ∷ rest) (omega arith) c.requires is e))
-          (λ is. adds_join lengthened longer nodes c.args.self.now right.new.self left.new.self step.new.self right.result left.result behind right.ensures.adds left.ensures.adds step.ensures.steps step.ensures.types u rest
-          (last_node nodes c.args.end More (λ ns. trees ns ≡ u ∷ rest) (omega arith) c.requires is e))
-          c.in-Pair.is;
-    }
+pub returns-in_ok-left-in-Pair-clause-adds : goal.returns-in_ok-left-in-Pair-clause-adds
+returns-in_ok-left-in-Pair-clause-adds t c =
+    let ns = c.in_ok-node.before.now in
+    let right = c.in_ok-right-in-Pair.ensures.adds in
+    let left = c.in_ok-left-in-Pair.ensures.adds in
+    let step = c.add_step-in-Pair.ensures in
+    ⊎_elim
+    (λ is. added_last c.args.nodes.now ns c.in_ok-node.node.now Pair _ _ _ c.in_ok-node.ensures.cases.0 is (adds_join (λ x y. seq (two x y)) paired (trees (reverse ns)) _ _ _ _ _ _ right left step.steps step.types))
+    (λ is. added_last c.args.nodes.now ns c.in_ok-node.node.now More _ _ _ c.in_ok-node.ensures.cases.0 is (adds_join lengthened longer (trees (reverse ns)) _ _ _ _ _ _ right left step.steps step.types))
+    c.in-Pair.is
