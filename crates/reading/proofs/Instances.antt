@@ -1,6 +1,7 @@
 -- The records at each place: no two stand at the front of the same bytes, and one that stands there passes every question.
-use Rattle.std.proofs.Common.{◌≡◌, ℕ, cond, eqb, ◌⊎◌, List, [], ◌∷◌, ◌++◌, map, length, get_or, sym, refl, ap, ◌∙◌, subst, inl, inr, arith}
-use Rattle.records.specs.declared.record.Front.{Front}
+use Rattle.std.proofs.Common.{◌≡◌, ℕ, ◌≤◌, cond, eqb, ◌⊎◌, List, [], ◌∷◌, ◌++◌, map, Some, length, get_or, sym, refl, ap, ◌∙◌, subst, inl, inr, arith}
+use Rattle.std.proofs.Math.Bridge.{le_prop}
+use Rattle.reading.specs.declared.read.Front.{Front}
 use Rattle.records.specs.declared.record.Header.{Header}
 use Rattle.records.specs.declared.record.Input.{Input}
 use Rattle.records.specs.declared.record.Input.TheVariants as input
@@ -11,16 +12,23 @@ use Rattle.records.specs.declared.record.Output.TheVariants as output
 use Rattle.records.specs.declared.record.RuleSetting.{RuleSetting}
 use Rattle.records.specs.declared.record.RuleSetting.TheVariants.{Falling, Near}
 use Rattle.records.specs.Fields.{row, Fit, Begins}
-use Rattle.records.specs.Formats.{front_fields, mark_hd, mark_ev, mark_tk, mark_rs, mark_ft, kind_number, rule_number, gap_fields, input_fields, output_fields}
-use Rattle.reading.specs.Raw.{gap_if}
+use Rattle.records.specs.Formats.{mark_hd, mark_ev, mark_tk, mark_rs, mark_ft, kind_number, rule_number, gap_fields, input_fields, output_fields}
+use Rattle.reading.specs.Raw.{front_fields}
 use Rattle.reading.specs.Reading.{ask_either, ask_header, HeaderAt, InputAt, OutputAt, Answer, ReadsHeader, ReadsInput, ReadsOutput, SameHeader, Exact}
 use Rattle.reading.proofs.Apart.{row_same, stretch_same}
 use Rattle.reading.proofs.Places.{placed, kind_range}
 use Rattle.reading.proofs.Unique.{Yes, exact}
 
 -- the records by their numbers, from the mark on
-abbrev event_of : List ℕ → Input
-event_of ns = input.Event (record { time = get_or ns 1 0; lift = get_or ns 2 0; kind = get_or ns 3 0; level = get_or ns 4 0; load = get_or ns 5 0 })
+abbrev InRange : List ℕ → Type 0
+InRange ns = (get_or ns 1 0 ≤ 4294967295) × (get_or ns 2 0 ≤ 65535) × (get_or ns 3 0 ≤ 255) × (get_or ns 4 0 ≤ 65535) × (get_or ns 5 0 ≤ 4294967295)
+
+abbrev event_of : (ns : List ℕ) → InRange ns → Input
+event_of ns r = input.Event (record { time = get_or ns 1 0; lift = get_or ns 2 0; kind = get_or ns 3 0; level = get_or ns 4 0; load = get_or ns 5 0; ranges = r })
+
+-- that numbers are in range has one proof at most
+event_same : (ns ms : List ℕ) (r : InRange ns) (s : InRange ms) → ns ≡ ms → event_of ns r ≡ event_of ms s
+event_same ns ms r s e = subst (λ ks. (s : InRange ks) → event_of ns r ≡ event_of ks s) e (λ s. ap (event_of ns) (λ i. (le_prop r.0 s.0 i, le_prop r.1 s.1 i, le_prop r.2 s.2 i, le_prop r.3 s.3 i, le_prop r.4 s.4 i))) s
 
 abbrev tick_of : List ℕ → Input
 tick_of ns = input.Tick (record { time = get_or ns 1 0 })
@@ -49,15 +57,6 @@ rule_range : (s : RuleSetting) → (rule_number s ≡ 1) ⊎ (rule_number s ≡ 
 rule_range Falling = inl refl
 rule_range (Near gap) = inr refl
 
-gap_number : RuleSetting → ℕ
-gap_number Falling = 0
-gap_number (Near gap) = gap
-
-gap_same : (s : RuleSetting) → gap_if (rule_number s) (gap_number s) ≡ gap_fields s
-unfolding gap_number
-gap_same Falling = refl
-gap_same (Near gap) = refl
-
 -- a header's fields up to the rule, and from there on
 abbrev front_of : Header → Front
 front_of h = record { origin = h.origin; slide = h.slide; n = h.n; kind = kind_number h.kind; rule = rule_number h.rule }
@@ -85,7 +84,11 @@ module _ (bs : List ℕ) where
       (ap make z.0, z.1)
 
   pub input_same : (x y : Input) (r s : List ℕ) → InputAt bs x r → InputAt bs y s → (x ≡ y) × (r ≡ s)
-  input_same (input.Event d) (input.Event e) r s h k = made_same event_of (input_fields (input.Event d)) (input_fields (input.Event e)) r s refl h k
+  input_same (input.Event d) (input.Event e) r s h k =
+      let fs = input_fields (input.Event d) in
+      let gs = input_fields (input.Event e) in
+      let z = row_same fs gs r s refl h.fit k.fit (sym h.bytes ∙ k.bytes) in
+      (event_same (map (λ f. f.1) fs) (map (λ f. f.1) gs) d.ranges e.ranges z.0, z.1)
   input_same (input.Event d) (input.Tick u) r s h k = let z : ◌≡◌ {A = ℕ} 69 84 = cc in absurd (omega arith)
   input_same (input.Tick t) (input.Event e) r s h k = let z : ◌≡◌ {A = ℕ} 84 69 = cc in absurd (omega arith)
   input_same (input.Tick t) (input.Tick u) r s h k = made_same tick_of (input_fields (input.Tick t)) (input_fields (input.Tick u)) r s refl h k
@@ -117,7 +120,7 @@ module _ (bs : List ℕ) where
 
   pub header_yes : (x : Header) (r : List ℕ) → HeaderAt bs x r → Yes (ask_header bs)
   header_yes x r h =
-      let p = placed (record { front = front_of x; gap = gap_number x.rule; text = x.text }) r bs (rw (gap_same x.rule) h) in
+      let p = placed (front_of x) x.text.now r bs (Some x.rule) refl h in
       record { two = p.two; mark = p.mark; whole = p.whole; kind = rw p.kind (kind_range x.kind); rule = rw p.rule (rule_range x.rule) }
 
   pub header_exact : (place : ℕ) (a : Answer Header) → ReadsHeader bs place a → Exact SameHeader (HeaderAt bs) a

@@ -69,6 +69,15 @@ abbrev pub Reads : {X : Type 0} → (X → List ℕ → Type 0) → Questions �
 Reads At q place (Ok x) = At x.0 x.1.now
 Reads At q place (Err f) = (f.place ≡ place) × FirstNo q f.refusal
 
+-- the same before the place is added
+abbrev pub Finds : {X : Type 0} → (X → List ℕ → Type 0) → Questions → Result (X × Bor (List ℕ)) ReadRefusal → Type 0
+Finds At q (Ok x) = At x.0 x.1.now
+Finds At q (Err r) = FirstNo q r
+
+-- x is made of the record of one of two kinds that stands at the front of bs, and then rest is left
+abbrev pub MadeAt : {A B X : Type 0} → (A → X → Type 0) → (B → X → Type 0) → (A → List (ℕ × ℕ)) → (B → List (ℕ × ℕ)) → List ℕ → X → List ℕ → Type 0
+MadeAt {A} {B} First Second first second bs x rest = ((a : A) × First a x × Begins (first a) bs rest) ⊎ ((b : B) × Second b x × Begins (second b) bs rest)
+
 abbrev pub ReadsHeader : List ℕ → ℕ → Answer Header → Type 0
 ReadsHeader bs = Reads (HeaderAt bs) (ask_header bs)
 

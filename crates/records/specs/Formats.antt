@@ -1,9 +1,8 @@
 -- The five formats: a mark of two letters, then fields, each a width in bytes and a number.
-use Rattle.std.specs.Prelude.{ℕ, List, [], ◌∷◌, ◌++◌, length}
+use Rattle.std.specs.Prelude.{◌≡◌, ℕ, ◌≤◌, List, [], ◌∷◌, ◌++◌, length, codes, Result, MatchResult}
 use Rattle.records.specs.Fields.{row}
-use Rattle.records.specs.declared.record.EventRecord.{EventRecord}
+use Rattle.events.specs.declared.event.Event.{Event}
 use Rattle.records.specs.declared.record.FaultRecord.{FaultRecord}
-use Rattle.records.specs.declared.record.Front.{Front}
 use Rattle.records.specs.declared.record.Header.{Header}
 use Rattle.records.specs.declared.record.Input.{Input}
 use Rattle.records.specs.declared.record.Input.TheVariants as input
@@ -15,6 +14,7 @@ use Rattle.records.specs.declared.record.ResultRecord.{ResultRecord}
 use Rattle.records.specs.declared.record.RuleSetting.{RuleSetting}
 use Rattle.records.specs.declared.record.RuleSetting.TheVariants.{Falling, Near}
 use Rattle.records.specs.declared.record.Tick.{Tick}
+use Rattle.records.specs.declared.record.UnknownKind.{UnknownKind}
 
 -- the marks
 abbrev pub mark_hd : ℕ
@@ -33,7 +33,7 @@ abbrev pub mark_ft : ℕ
 mark_ft = 0x4654
 
 -- what follows the mark of each record
-abbrev pub event_fields : EventRecord → List (ℕ × ℕ)
+abbrev pub event_fields : Event → List (ℕ × ℕ)
 event_fields e = (4, e.time) ∷ (2, e.lift) ∷ (1, e.kind) ∷ (2, e.level) ∷ (4, e.load) ∷ []
 
 abbrev pub tick_fields : Tick → List (ℕ × ℕ)
@@ -51,6 +51,16 @@ kind_number Least = 2
 kind_number LeastWays = 3
 kind_number Most = 4
 
+-- the kind with this number, or that the number is not 1 to 4
+abbrev pub OfNumber : ℕ → Result KindNumber UnknownKind → Type 0
+OfNumber number r = MatchResult r (λ k. kind_number k ≡ number) (λ e. (1 ≤ number) × (number ≤ 4) → ⊥)
+
+abbrev pub kind_name : KindNumber → List ℕ
+kind_name Count = codes "count"
+kind_name Least = codes "least"
+kind_name LeastWays = codes "leastways"
+kind_name Most = codes "most"
+
 abbrev pub rule_number : RuleSetting → ℕ
 rule_number Falling = 1
 rule_number (Near gap) = 2
@@ -59,10 +69,6 @@ rule_number (Near gap) = 2
 abbrev pub gap_fields : RuleSetting → List (ℕ × ℕ)
 gap_fields Falling = []
 gap_fields (Near gap) = (4, gap) ∷ []
-
--- a header from after its mark to its rule
-abbrev pub front_fields : Front → List (ℕ × ℕ)
-front_fields f = (4, f.origin) ∷ (4, f.slide) ∷ (1, f.n) ∷ (1, f.kind) ∷ (1, f.rule) ∷ []
 
 -- the text itself follows its length
 abbrev pub header_fields : Header → List (ℕ × ℕ)

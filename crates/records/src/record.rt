@@ -1,56 +1,87 @@
 //! The five records, with their numbers by name.
-ghost use Rattle.std.specs.Prelude.{◌≡◌, ◌≤◌, MatchOption};
-ghost use Rattle.records.specs.Formats.{kind_number, rule_number};
+ghost use Rattle.std.specs.Prelude.{◌≡◌, Some, codes};
+ghost use Rattle.records.specs.Formats.{kind_number, kind_name, rule_number, OfNumber};
+
+use events::Event;
+use std::error::Error;
+use std::fmt;
 
 /// A weight kind, by its name.
 #[derive(Clone, Copy, Debug, PartialEq, Eq)]
 pub enum KindNumber {
-    Count,
+    Count = 1,
     Least,
     LeastWays,
     Most,
 }
 
-impl KindNumber {
-    /// The kind's number, 1 to 4.
-    pub fn number(self) -> u8
-        ensures { result ≡ kind_number self }
-    {
-        match self {
-            KindNumber::Count => 1,
-            KindNumber::Least => 2,
-            KindNumber::LeastWays => 3,
-            KindNumber::Most => 4,
-        }
-    }
+/// A number that no weight kind has.
+#[derive(Clone, Copy, Debug, PartialEq, Eq)]
+pub struct UnknownKind;
 
-    /// The kind with this number, if one has it.
-    pub fn from_number(number: u8) -> Option<KindNumber>
-        ensures { MatchOption result ((1 ≤ number) × (number ≤ 4) → ⊥) (λ k. kind_number k ≡ number) }
-    {
+/// The kind's number, 1 to 4.
+impl From<KindNumber> for u8 {
+    ghost from_gives = { λ kind number. number ≡ kind_number kind };
+
+    fn from(kind: KindNumber) -> u8 {
+        kind as u8
+    }
+}
+
+/// The kind with this number, if one has it.
+impl TryFrom<u8> for KindNumber {
+    type Error = UnknownKind;
+
+    ghost try_from_gives = { OfNumber };
+
+    fn try_from(number: u8) -> Result<KindNumber, UnknownKind> {
         match number {
-            1 => Some(KindNumber::Count),
-            2 => Some(KindNumber::Least),
-            3 => Some(KindNumber::LeastWays),
-            4 => Some(KindNumber::Most),
-            _ => None,
+            1 => Ok(KindNumber::Count),
+            2 => Ok(KindNumber::Least),
+            3 => Ok(KindNumber::LeastWays),
+            4 => Ok(KindNumber::Most),
+            _ => Err(UnknownKind),
         }
     }
 }
 
+impl fmt::Display for KindNumber {
+    ghost output = { λ kind. Some (kind_name kind) };
+
+    fn fmt<W: fmt::Write>(&self, f: &mut fmt::Formatter<W>) -> fmt::Result {
+        f.write_str(match self {
+            KindNumber::Count => "count",
+            KindNumber::Least => "least",
+            KindNumber::LeastWays => "leastways",
+            KindNumber::Most => "most",
+        })
+    }
+}
+
+impl fmt::Display for UnknownKind {
+    ghost output = { λ _. Some (codes "no weight kind has this number") };
+
+    fn fmt<W: fmt::Write>(&self, f: &mut fmt::Formatter<W>) -> fmt::Result {
+        f.write_str("no weight kind has this number")
+    }
+}
+
+impl Error for UnknownKind {}
+
 /// A follow rule with its settings.
+// Both by name: an `Option` of a gap would not say which rule it is.
 #[derive(Clone, Copy, Debug, PartialEq, Eq)]
 pub enum RuleSetting {
     Falling,
     Near { gap: u32 },
 }
 
-impl RuleSetting {
-    /// The rule's number, 1 or 2.
-    pub fn number(self) -> u8
-        ensures { result ≡ rule_number self }
-    {
-        match self {
+/// The rule's number, 1 or 2.
+impl From<RuleSetting> for u8 {
+    ghost from_gives = { λ rule number. number ≡ rule_number rule };
+
+    fn from(rule: RuleSetting) -> u8 {
+        match rule {
             RuleSetting::Falling => 1,
             RuleSetting::Near { gap: _ } => 2,
         }
@@ -67,17 +98,6 @@ pub struct Header<'a> {
     pub rule: RuleSetting,
     /// The pattern's text: once read, a stretch of the input itself.
     pub text: &'a [u8],
-}
-
-/// EV: an event.
-#[derive(Clone, Copy, Debug, PartialEq, Eq)]
-pub struct EventRecord {
-    pub time: u32,
-    pub lift: u16,
-    /// The number of the event's type, whatever it is.
-    pub kind: u8,
-    pub level: u16,
-    pub load: u32,
 }
 
 /// TK: the clock.
@@ -100,6 +120,7 @@ pub struct ResultRecord {
 /// FT: a refusal's number and the place of the refused record.
 #[derive(Clone, Copy, Debug, PartialEq, Eq)]
 pub struct FaultRecord {
+    /// The refusal's number, whatever it is.
     pub number: u8,
     pub place: u32,
 }
@@ -107,7 +128,8 @@ pub struct FaultRecord {
 /// A record that may stand after the header.
 #[derive(Clone, Copy, Debug, PartialEq, Eq)]
 pub enum Input {
-    Event(EventRecord),
+    /// EV: an event, with the code of its type, whatever it is.
+    Event(Event),
     Tick(Tick),
 }
 
@@ -116,14 +138,4 @@ pub enum Input {
 pub enum Output {
     Result(ResultRecord),
     Fault(FaultRecord),
-}
-
-/// The numbers of a header up to its rule.
-#[derive(Clone, Copy)]
-pub struct Front {
-    pub origin: u32,
-    pub slide: u32,
-    pub n: u8,
-    pub kind: u8,
-    pub rule: u8,
 }

@@ -1,11 +1,13 @@
 //! The readers and writers of records at single inputs.
 #![tactic(auto)]
 
+use events::Event;
 use reading::{read_header, read_input, read_output};
 use records::record::{
-    EventRecord, FaultRecord, Header, Input, KindNumber, Output, ResultRecord, RuleSetting, Tick,
+    FaultRecord, Header, Input, KindNumber, Output, ResultRecord, RuleSetting, Tick,
 };
 use records::refusal::{ReadFault, ReadRefusal, WriteRefusal};
+use records::write::ToBytes;
 
 /// A header of every part: Near with the greatest gap, and the text BATT+.
 const NEAR: [u8; 23] = [
@@ -49,7 +51,7 @@ const FAULT: [u8; 7] = [0x46, 0x54, 33, 0, 1, 0, 0];
 /// What is left behind a whole record.
 const NOTHING: &[u8] = b"";
 
-const AN_EVENT: EventRecord = EventRecord {
+const AN_EVENT: Event = Event {
     time: 7,
     lift: 258,
     kind: 4,
@@ -75,36 +77,6 @@ const A_FAULT: FaultRecord = FaultRecord {
 /// A place beyond four bytes.
 const PLACE: u64 = 5000000000;
 
-// The calls, for tests that need nothing of what these ensure.
-
-fn header_fault(bytes: &[u8]) -> Option<ReadFault> {
-    read_header(bytes, PLACE).err()
-}
-
-fn input_fault(bytes: &[u8]) -> Option<ReadFault> {
-    read_input(bytes, PLACE).err()
-}
-
-fn output_fault(bytes: &[u8]) -> Option<ReadFault> {
-    read_output(bytes, PLACE).err()
-}
-
-fn header(bytes: &[u8]) -> Option<(Header<'_>, &[u8])> {
-    read_header(bytes, 0).ok()
-}
-
-fn input(bytes: &[u8]) -> Option<(Input, &[u8])> {
-    read_input(bytes, 0).ok()
-}
-
-fn output(bytes: &[u8]) -> Option<(Output, &[u8])> {
-    read_output(bytes, 0).ok()
-}
-
-fn write(header: Header, out: &mut [u8]) -> Result<usize, WriteRefusal> {
-    header.write(out)
-}
-
 fn fault(refusal: ReadRefusal) -> Option<ReadFault> {
     Some(ReadFault {
         refusal,
@@ -129,9 +101,9 @@ fn header_of(kind: u8, rule: u8) -> [u8; 14] {
 #[test]
 fn headers(rt: HostRuntime) {
     for (bytes, expected) in [(&NEAR[..], A_NEAR), (&FALLING, A_FALLING)] {
-        assert_eq!(rt; header(bytes), Some((expected, NOTHING)));
+        assert_eq!(rt; read_header(bytes, 0), Ok((expected, NOTHING)));
         let mut out = [7; 30];
-        assert_eq!(rt; write(expected, &mut out), Ok(bytes.len()));
+        assert_eq!(rt; expected.write(&mut out), Ok(bytes.len()));
         assert!(rt; out.starts_with(bytes));
         assert_eq!(rt; &out[23..30], [7; 7].as_slice());
     }
@@ -145,15 +117,15 @@ fn headers_not_written(rt: HostRuntime) {
         text: &text,
         ..A_NEAR
     };
-    assert_eq!(rt; write(long, &mut out), Err(WriteRefusal::Text));
+    assert_eq!(rt; long.write(&mut out), Err(WriteRefusal::Text));
     let fits = Header {
         text: &text[0..255],
         ..A_NEAR
     };
-    assert_eq!(rt; write(fits, &mut out[0..272]), Err(WriteRefusal::Room));
+    assert_eq!(rt; fits.write(&mut out[0..272]), Err(WriteRefusal::Room));
     assert_eq!(rt; &out, &[7; 273]);
-    assert_eq!(rt; write(fits, &mut out), Ok(273));
-    assert_eq!(rt; header(&out), Some((fits, NOTHING)));
+    assert_eq!(rt; fits.write(&mut out), Ok(273));
+    assert_eq!(rt; read_header(&out, 0), Ok((fits, NOTHING)));
 }
 
 #[test]
@@ -162,13 +134,13 @@ fn inputs_and_outputs(rt: HostRuntime) {
         (&EVENT[..], Input::Event(AN_EVENT)),
         (&TICK, Input::Tick(A_TICK)),
     ] {
-        assert_eq!(rt; input(bytes), Some((expected, NOTHING)));
+        assert_eq!(rt; read_input(bytes, 0), Ok((expected, NOTHING)));
     }
     for (bytes, expected) in [
         (&RESULT[..], Output::Result(A_RESULT)),
         (&FAULT, Output::Fault(A_FAULT)),
     ] {
-        assert_eq!(rt; output(bytes), Some((expected, NOTHING)));
+        assert_eq!(rt; read_output(bytes, 0), Ok((expected, NOTHING)));
     }
 }
 
@@ -183,13 +155,13 @@ fn written(rt: HostRuntime) {
 #[test]
 fn marks(rt: HostRuntime) {
     for bytes in [&EVENT[..], &TICK, &RESULT, &FAULT, &[0, 0], &[0x48, 0x45]] {
-        assert_eq!(rt; header_fault(bytes), fault(ReadRefusal::Mark));
+        assert_eq!(rt; read_header(bytes, PLACE).err(), fault(ReadRefusal::Mark));
     }
     for bytes in [&NEAR[..], &RESULT, &FAULT, &[0x45, 0x57], &[0x54, 0x4a]] {
-        assert_eq!(rt; input_fault(bytes), fault(ReadRefusal::Mark));
+        assert_eq!(rt; read_input(bytes, PLACE).err(), fault(ReadRefusal::Mark));
     }
     for bytes in [&NEAR[..], &EVENT, &TICK, &[0x52, 0x54], &[0x46, 0x55]] {
-        assert_eq!(rt; output_fault(bytes), fault(ReadRefusal::Mark));
+        assert_eq!(rt; read_output(bytes, PLACE).err(), fault(ReadRefusal::Mark));
     }
 }
 
@@ -197,17 +169,17 @@ fn marks(rt: HostRuntime) {
 fn cut_short(rt: HostRuntime) {
     for bytes in [&NEAR[..], &FALLING] {
         for size in 0..bytes.len() {
-            assert_eq!(rt; header_fault(&bytes[0..size]), cut(size));
+            assert_eq!(rt; read_header(&bytes[0..size], PLACE).err(), cut(size));
         }
     }
     for bytes in [&EVENT[..], &TICK] {
         for size in 0..bytes.len() {
-            assert_eq!(rt; input_fault(&bytes[0..size]), cut(size));
+            assert_eq!(rt; read_input(&bytes[0..size], PLACE).err(), cut(size));
         }
     }
     for bytes in [&RESULT[..], &FAULT] {
         for size in 0..bytes.len() {
-            assert_eq!(rt; output_fault(&bytes[0..size]), cut(size));
+            assert_eq!(rt; read_output(&bytes[0..size], PLACE).err(), cut(size));
         }
     }
 }
@@ -283,12 +255,12 @@ const KINDS_AND_RULES: [(u8, u8, Option<ReadRefusal>); 14] = [
 fn kinds_and_rules(rt: HostRuntime) {
     for (kind, rule, refusal) in KINDS_AND_RULES {
         let bytes = header_of(kind, rule);
-        let expected = match refusal {
-            Some(refusal) => fault(refusal),
-            None => None,
-        };
-        assert_eq!(rt; header_fault(&bytes), expected);
-        assert_eq!(rt; header_fault(&bytes[0..13]), fault(ReadRefusal::Short));
+        let expected = refusal.and_then(fault);
+        assert_eq!(rt; read_header(&bytes, PLACE).err(), expected);
+        assert_eq!(rt;
+            read_header(&bytes[0..13], PLACE).err(),
+            fault(ReadRefusal::Short)
+        );
     }
 }
 
@@ -303,14 +275,14 @@ const NUMBERS: [(ReadRefusal, u8); 5] = [
 #[test]
 fn numbers(rt: HostRuntime) {
     for (refusal, number) in NUMBERS {
-        assert_eq!(rt; refusal.number(), number);
+        assert_eq!(rt; u8::from(refusal), number);
     }
     for number in 0..=255 {
-        match KindNumber::from_number(number) {
-            Some(kind) => assert_eq!(rt; kind.number(), number),
-            None => assert!(rt; number < 1 || number > 4),
+        match KindNumber::try_from(number) {
+            Ok(kind) => assert_eq!(rt; u8::from(kind), number),
+            Err(_) => assert!(rt; number < 1 || number > 4),
         }
     }
-    assert_eq!(rt; RuleSetting::Falling.number(), 1);
-    assert_eq!(rt; RuleSetting::Near { gap: 0 }.number(), 2);
+    assert_eq!(rt; u8::from(RuleSetting::Falling), 1);
+    assert_eq!(rt; u8::from(RuleSetting::Near { gap: 0 }), 2);
 }

@@ -1,5 +1,6 @@
+use Rattle.std.proofs.Common.{rules}
 use Rattle.reading.proofs.Instances.{header_exact}
 use Rattle.reading.proofs.read.read_header.Goals as goal
 
-pub returns : goal.returns
-returns c = record { answer = c.header_at.ensures; exact = header_exact c.args.bytes.now c.args.place c.header_at.result c.header_at.ensures }
+pub returns-clause-exact : goal.returns-clause-exact
+returns-clause-exact c = header_exact c.args.bytes.now c.args.place c.map_err.result (search rules)
