@@ -48,6 +48,7 @@ impl Follow for Near {
     ghost decides = { Prim.search rules };
 
     fn follows(&self, earlier: Event, later: Event) -> bool {
-        earlier.time <= later.time && later.time - earlier.time <= self.gap
+        let passed = later.time.checked_sub(earlier.time);
+        passed.is_some_and(|seconds| seconds <= self.gap)
     }
 }

@@ -45,6 +45,7 @@ pub trait Weight: Copy {
 }
 
 /// The two numbers that a value tells in a report.
+// Any kind's value has to fit this: the report's format is two numbers.
 #[derive(Clone, Copy, Debug, PartialEq, Eq)]
 pub struct Told {
     pub first: u32,
@@ -52,11 +53,13 @@ pub struct Told {
 }
 
 /// A kind whose values can be told in a report.
+// `From` both ways is no plainer: three impls a kind in place of one, and laws to tie each to the report.
 pub trait Reported: Weight {
     // The kind's number, what a value tells, and what is read from what is told.
     ghost report: { Report Self };
 
     /// The number that stands for the kind.
+    // A number and not an enum, which would close the kinds: anyone may add one.
     fn number() -> u8
         ensures { result ≡ report.number };
 
@@ -73,6 +76,7 @@ pub trait Reported: Weight {
 }
 
 /// A kind whose values a lawful map carries to those of another.
+// A trait of its own and no bound `From`, by which a kind could be carried to itself in one way alone.
 pub trait CarriedTo<W: Weight>: Weight {
     // The value of the other kind that a value is carried to.
     ghost map: { Self → W };

@@ -10,6 +10,7 @@ pub struct Count {
 }
 
 /// The least weight of a trend.
+// The kind is defined on numbers, with the largest for "no trend", and a report tells it so: no `Option`.
 #[derive(Clone, Copy, Debug, PartialEq, Eq)]
 pub struct Least {
     pub weight: u32,
@@ -17,6 +18,7 @@ pub struct Least {
 }
 
 /// The least weight of a trend, and how many trends have it.
+// The kind is defined on two numbers, and a report tells them as they stand: so no `Option` for "no trend".
 #[derive(Clone, Copy, Debug, PartialEq, Eq)]
 pub struct LeastWays {
     pub weight: u32,

@@ -7,6 +7,7 @@ use crate::{Count, Reported, Told, Weight};
 use events::Event;
 
 impl Count {
+    #[tactic(auto, using(crate::specs::CountLaws::same), unfolding(crate::specs::Count::count_of))]
     pub fn new(number: u32) -> Count
         ensures { result ≡ count_of number }
     {
@@ -56,6 +57,7 @@ impl Reported for Count {
         }
     }
 
+    #[tactic(auto, using(crate::specs::CountLaws::count_retold))]
     fn from_told(told: Told) -> Count {
         Count::new(told.first)
     }

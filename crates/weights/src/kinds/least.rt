@@ -7,6 +7,7 @@ use crate::{Least, Reported, Told, Weight};
 use events::Event;
 
 impl Least {
+    #[tactic(auto, using(crate::specs::LeastLaws::same), unfolding(crate::specs::Least::least_of))]
     pub fn new(weight: u32) -> Least
         ensures { result ≡ least_of weight }
     {
@@ -56,6 +57,7 @@ impl Reported for Least {
         }
     }
 
+    #[tactic(auto, using(crate::specs::LeastLaws::least_retold))]
     fn from_told(told: Told) -> Least {
         Least::new(told.first)
     }

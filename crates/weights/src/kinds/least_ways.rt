@@ -10,6 +10,7 @@ use std::cmp::Ordering;
 
 impl LeastWays {
     /// The value of this weight with so many ways: zero if the weight is T or there are none.
+    #[tactic(auto, using(crate::specs::LeastWaysParts::same, crate::specs::LeastWaysParts::parts))]
     pub fn new(weight: u32, ways: u32) -> LeastWays
         ensures { result ≡ least_ways_of weight ways }
     {
@@ -72,18 +73,27 @@ impl Reported for LeastWays {
         }
     }
 
+    #[tactic(auto, using(crate::specs::LeastWaysLaws::least_ways_retold))]
     fn from_told(told: Told) -> LeastWays {
         LeastWays::new(told.first, told.second)
     }
 }
 
 /// Forgets the ways.
+impl From<LeastWays> for Least {
+    ghost from_gives = { λ value least. least ≡ without_ways value };
+
+    fn from(value: LeastWays) -> Least {
+        Least::new(value.weight)
+    }
+}
+
 impl CarriedTo<Least> for LeastWays {
     ghost map = { without_ways };
 
     ghost carries = { LeastWaysLaws.carries };
 
     fn carried(self) -> Least {
-        Least::new(self.weight)
+        Least::from(self)
     }
 }

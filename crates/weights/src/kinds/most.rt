@@ -7,6 +7,7 @@ use crate::{Most, Reported, Told, Weight};
 use events::Event;
 
 impl Most {
+    #[tactic(auto, using(crate::specs::MostLaws::same, crate::specs::MostLaws::of_weight))]
     pub fn new(weight: Option<u32>) -> Most
         ensures { result ≡ most_of weight }
     {
@@ -28,17 +29,13 @@ impl Weight for Most {
     }
 
     fn join(self, other: Most) -> Most {
-        match (self.weight, other.weight) {
-            (None, weight) | (weight, None) => Most::new(weight),
-            (Some(v), Some(w)) => Most::new(Some(v.max(w))),
-        }
+        // `None` is the least of an `Option`.
+        Most::new(self.weight.max(other.weight))
     }
 
     fn chain(self, other: Most) -> Most {
-        match (self.weight, other.weight) {
-            (Some(v), Some(w)) => Most::new(Some(v.saturating_add(w))),
-            _ => Most::zero(),
-        }
+        let both = self.weight.zip(other.weight);
+        Most::new(both.map(|(v, w)| v.saturating_add(w)))
     }
 
     fn weigh(event: Event) -> Most {
@@ -69,10 +66,6 @@ impl Reported for Most {
     }
 
     fn from_told(told: Told) -> Most {
-        Most::new(if told.second == 0 {
-            None
-        } else {
-            Some(told.first)
-        })
+        Most::new((told.second != 0).then_some(told.first))
     }
 }
