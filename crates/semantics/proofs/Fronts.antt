@@ -6,6 +6,10 @@ use Rattle.std.specs.List.{prefix_len}
 use Rattle.semantics.specs.Histories.{dropped_while}
 use Rattle.semantics.specs.Trends.{All}
 
+dropped_cons : {X : Type 0} (test : X → Bool) (x : X) (xs : List X) → dropped_while test (x ∷ xs) ≡ cond (test x) (dropped_while test xs) (x ∷ xs)
+dropped_cons test x xs =
+    elim (test x) as (λ b. drop (cond b (1 + prefix_len test xs) 0) (x ∷ xs) ≡ cond b (dropped_while test xs) (x ∷ xs)) [ true ↦ rw one-add refl | false ↦ refl ]
+
 -- after one that fails the test, none passes
 abbrev pub Fades : {X : Type 0} → (X → Bool) → List X → Type 0
 Fades keep [] = Unit {0}
@@ -51,18 +55,12 @@ module _ {X : Type 0} (keep : X → Bool) where
   module _ (test : X → Bool) (other : (x : X) → test x ≡ not (keep x)) where
     dropped_all : (xs rest : List X) → All (λ y. keep y ≡ false) xs → dropped_while test (reverse_aux xs rest) ≡ dropped_while test rest
     dropped_all [] rest h = refl
-    dropped_all (x ∷ xs) rest h = dropped_all xs (x ∷ rest) h.1 ∙ cond-true (test x) (dropped_while test rest) (x ∷ rest) (other x ∙ ap not h.0)
+    dropped_all (x ∷ xs) rest h = dropped_all xs (x ∷ rest) h.1 ∙ dropped_cons test x rest ∙ cond-true (test x) (dropped_while test rest) (x ∷ rest) (other x ∙ ap not h.0)
 
     dropped_before : (xs rest : List X) → Fades keep xs → dropped_while test rest ≡ rest → dropped_while test (reverse_aux xs rest) ≡ reverse_aux (filter keep xs) rest
     dropped_before [] rest h stop = stop
     dropped_before (x ∷ xs) rest h stop =
-        cond_both (keep x) (x ∷ filter keep xs) (filter keep xs) (λ zs. dropped_while test (reverse_aux xs (x ∷ rest)) ≡ reverse_aux zs rest) (λ yes. dropped_before xs (x ∷ rest) h.1 (cond-false (test x) (dropped_while test rest) (x ∷ rest) (other x ∙ ap not yes))) (λ no. rw (filtered_none xs (h.0 no)) (dropped_all (x ∷ xs) rest (no, h.0 no) ∙ stop))
+        cond_both (keep x) (x ∷ filter keep xs) (filter keep xs) (λ zs. dropped_while test (reverse_aux xs (x ∷ rest)) ≡ reverse_aux zs rest) (λ yes. dropped_before xs (x ∷ rest) h.1 (dropped_cons test x rest ∙ cond-false (test x) (dropped_while test rest) (x ∷ rest) (other x ∙ ap not yes))) (λ no. rw (filtered_none xs (h.0 no)) (dropped_all (x ∷ xs) rest (no, h.0 no) ∙ stop))
 
     pub filtered_dropped : (xs : List X) → Fades keep xs → reverse (filter keep xs) ≡ dropped_while test (reverse xs)
     filtered_dropped xs h = sym (dropped_before xs [] h refl)
-
--- as a loop counts them
-pub drop_leading : {X : Type 0} (test : X → Bool) (xs : List X) → drop (prefix_len test xs) xs ≡ dropped_while test xs
-drop_leading test [] = refl
-drop_leading test (x ∷ xs) =
-    elim (test x) as (λ b. drop (cond b (1 + prefix_len test xs) 0) (x ∷ xs) ≡ cond b (dropped_while test xs) (x ∷ xs)) [ true ↦ rw one-add (drop_leading test xs) | false ↦ refl ]

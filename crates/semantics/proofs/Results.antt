@@ -1,19 +1,19 @@
 -- There is one result; the recursion comes to it; a lawful map carries it.
-use Rattle.std.proofs.Common.{◌≡◌, ℕ, Bool, cond, eqb, List, [], ◌∷◌, map, reverse, length, sym, refl, ap, ◌∙◌, subst, ap₂}
+use Rattle.std.proofs.Common.{◌≡◌, ℕ, Bool, eqb, List, [], ◌∷◌, map, reverse, length, sym, ap, ◌∙◌, subst, ap₂}
 use Rattle.std.proofs.lemmas.Bool.{and_parts}
 use Rattle.events.specs.declared.event.Event.{Event}
 use Rattle.rules.specs.Rules.{Rule, Decided}
 use Rattle.weights.specs.Kinds.{Kind, Laws}
 use Rattle.weights.specs.Maps.{Carries}
 use Rattle.semantics.specs.declared.setup.Setup.{Setup}
-use Rattle.semantics.specs.Recursion.{Shape, Valued, FitsPattern, before, Filled, total, events_of}
+use Rattle.semantics.specs.Recursion.{Shape, Valued, FitsPattern, Filled, total, events_of}
 use Rattle.semantics.specs.Theorems.{OneResult, CoreIsGeneral, JoinLawsSuffice}
 use Rattle.semantics.specs.Trends.{chosen, Listing, Trend, weight, joined, ResultIs}
 use Rattle.semantics.proofs.Flags.{flags, flags_listed}
 use Rattle.semantics.proofs.Listings.{same_join}
 use Rattle.semantics.proofs.Shapes.{pattern_shape}
 use Rattle.semantics.proofs.Testing.{within, within_decides, first, last, next, trends_flagged, trends_listed}
-use Rattle.semantics.specs.Core.{goes, gathered, FilledBy}
+use Rattle.semantics.specs.Core.{goes, FilledBy}
 use Rattle.semantics.proofs.Valuing.{gathered_is_join}
 
 pub result_unique : {V R : Type 0} {kind : Kind V} {rule : Rule R} {s : Setup R} {k g : ℕ} {events : List Event} {v w : V} → ResultIs kind rule s k g events v → ResultIs kind rule s k g events w → v ≡ w
@@ -35,22 +35,10 @@ one_result_lem kind rule laws decided s k g events =
     (joined kind (map (λ m. weight kind (chosen m events)) ts), r, λ w q. result_unique q r)
 
 module _ {V R : Type 0} (kind : Kind V) (rule : Rule R) (s : Setup R) (shape : Shape) (k : ℕ) where
-  before_gathers : (e : Event) (ps : List (Valued V)) → before kind rule s shape k e ps ≡ gathered kind (next rule s shape k e) ps
-  before_gathers e [] = refl
-  before_gathers e (p ∷ ps) = ap (λ v. cond (next rule s shape k e p.event) (kind.join p.value v) v) (before_gathers e ps)
-
-  total_gathers : (g : ℕ) (ps : List (Valued V)) → total kind rule s shape k g ps ≡ gathered kind (last rule s shape k g) ps
-  total_gathers g [] = refl
-  total_gathers g (p ∷ ps) = ap (λ v. cond (last rule s shape k g p.event) (kind.join p.value v) v) (total_gathers g ps)
-
   filled_by : (ps : List (Valued V)) → Filled kind rule s shape k ps → FilledBy kind (first rule s shape k) (next rule s shape k) (within rule s shape k) ps
   filled_by [] f = tt
   filled_by (p ∷ ps) f =
-      let e = p.event in (
-        λ t. f.0 ((within_decides rule s shape k e).0 t)
-            ∙ ap (λ v. kind.chain (kind.join (cond (shape.starts e.kind) kind.one kind.zero) v) (kind.weigh e)) (before_gathers e ps),
-        filled_by ps f.1,
-      )
+      (λ t. f.0 ((within_decides rule s shape k p.event).0 t), filled_by ps f.1)
 
   -- the recursion over predecessors comes to the result
   pub recursion_is_result_lem : Laws kind → Decided rule → FitsPattern s shape → (g : ℕ) (row : List (Valued V)) → Filled kind rule s shape k row → ResultIs kind rule s k g (reverse (events_of row)) (total kind rule s shape k g row)
@@ -62,8 +50,7 @@ module _ {V R : Type 0} (kind : Kind V) (rule : Rule R) (s : Setup R) (shape : S
 
       same : total kind rule s shape k g row ≡ joined kind (map (λ m. weight kind (chosen m events)) (flags (length events) (λ m. goes (first rule s shape k) (last rule s shape k g) (next rule s shape k) (chosen m events))))
       same =
-          total_gathers g row
-          ∙ gathered_is_join kind (first rule s shape k) (next rule s shape k) laws (within rule s shape k)
+          gathered_is_join kind (first rule s shape k) (next rule s shape k) laws (within rule s shape k)
           (λ e p t. (and_parts (within rule s shape k p) _ (and_parts (eqb p.lift e.lift) _ t).1).0)
           (last rule s shape k g)
           (λ e t. (and_parts (within rule s shape k e) _ (and_parts (eqb e.lift g) _ t).1).0)

@@ -1,5 +1,5 @@
 -- Every pattern has a shape that fits it, and a template that decides its words has one.
-use Rattle.std.proofs.Common.{◌≡◌, ℕ, ◌+◌, ◌*◌, Bool, false, ◌&&◌, ◌||◌, eqb, ltb, ◌↔◌, List, [], ◌∷◌, get_or, Decides}
+use Rattle.std.proofs.Common.{◌≡◌, ℕ, Bool, false, ◌&&◌, ◌||◌, eqb, ltb, ◌↔◌, List, [], ◌∷◌, get_or, Decides}
 use mathlib.Core.Bool.{false≢true}
 use Rattle.std.proofs.lemmas.Bool.{eqb-true, eq-eqb}
 use Rattle.std.proofs.lemmas.Bool.Decides.{Decides-and, Decides-or, Decides-ltb, Decides-like}
@@ -39,8 +39,8 @@ module _ (start end : ℕ) (steps : ℕ → ℕ → Bool) where
 pub marked_decides : (r : Template) (a b : ℕ) → Decides ((shape_of r).steps a b) (HasStep r a b)
 marked_decides r a b =
     Decides-like ((shape_of r).steps a b) (λ h. (h.0, h.1.0, h.1.1)) (λ h. (h.0, (h.1, h.2)))
-    (Decides-and (ltb a 10) (ltb b 10 && get_or r.marks.steps (10 * a + b) false) (Decides-ltb a 10)
-    (Decides-and (ltb b 10) (get_or r.marks.steps (10 * a + b) false) (Decides-ltb b 10) (λ e. e, λ e. e)))
+    (Decides-and (ltb a 10) (ltb b 10 && get_or (get_or r.marks.steps a []) b false) (Decides-ltb a 10)
+    (Decides-and (ltb b 10) (get_or (get_or r.marks.steps a []) b false) (Decides-ltb b 10) (λ e. e, λ e. e)))
 
 pub template_fits : {R : Type 0} (s : Setup R) (r : Template) → DecidesWords (tree s.pattern) r → FitsPattern s (shape_of r)
 template_fits s r = leads_fits (code_of r.start) (code_of r.end) (shape_of r).steps (HasStep r) (marked_decides r) s

@@ -2,6 +2,7 @@
 use Rattle.std.proofs.Common.{◌≡◌, ℕ, ◌≤◌, Bool, true, false, cond, ◌&&◌, ◌||◌, eqb, leb, List, [], ◌∷◌, reverse, filter, sym, refl, ap, ◌∙◌, subst, ap₂, arith}
 use mathlib.Core.List.{reverse_aux}
 use Rattle.std.proofs.lemmas.Bool.{eq-eqb, le-leb}
+use Rattle.std.specs.List.{list_any}
 use Rattle.events.specs.declared.event.Event.{Event}
 use Rattle.events.specs.Types.{code_of}
 use Rattle.grammar.proofs.Paths.{Coded, start_in, step_in, word_leads}
@@ -12,7 +13,7 @@ use Rattle.pattern.specs.Patterns.{tree}
 use Rattle.rules.specs.Rules.{Rule, Decided}
 use Rattle.weights.specs.Kinds.{Kind, Laws}
 use Rattle.semantics.specs.declared.setup.Setup.{Setup}
-use Rattle.semantics.specs.Histories.{any_of, accepted, first, in_pattern}
+use Rattle.semantics.specs.Histories.{accepted, first, in_pattern}
 use Rattle.semantics.specs.Recursion.{shape_of, total}
 use Rattle.semantics.specs.Theorems.{KeepsRelevant, KeptSuffice}
 use Rattle.semantics.specs.Trends.{ResultIs}
@@ -35,10 +36,10 @@ module _ {l : Level} (t : Tree l) (c : ℕ) where
       let p = word_leads t (a ∷ w) h in
       onward_coded a w p.1 (subst (Coded (names t)) (sym p.0) (start_in t)) i
 
-pub any_has : {X : Type 0} (test : X → Bool) {x : X} (xs : List X) → In x xs → test x ≡ true → any_of test xs ≡ true
+pub any_has : {X : Type 0} (test : X → Bool) {x : X} (xs : List X) → In x xs → test x ≡ true → list_any test xs ≡ true
 any_has test [] i e = elim i [ ]
-any_has test (y ∷ ys) here e = ap (λ b. b || any_of test ys) e
-any_has test (y ∷ ys) (there i) e = elim (test y) as (λ b. (b || any_of test ys) ≡ true) [ true ↦ refl | false ↦ any_has test ys i e ]
+any_has test (y ∷ ys) here e = ap (λ b. b || list_any test ys) e
+any_has test (y ∷ ys) (there i) e = elim (test y) as (λ b. (b || list_any test ys) ≡ true) [ true ↦ refl | false ↦ any_has test ys i e ]
 
 kept_by_turned : {X : Type 0} (p : X → Bool) (xs ys : List X) → reverse_aux (filter p xs) (filter p ys) ≡ filter p (reverse_aux xs ys)
 kept_by_turned p [] ys = refl

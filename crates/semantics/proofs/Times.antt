@@ -2,7 +2,6 @@
 use Rattle.std.proofs.Common.{◌≡◌, ℕ, suc, ◌<◌, ◌≤◌, Bool, true, false, cond, ◌&&◌, leb, List, [], ◌∷◌, reverse, length, take as front, drop, Some, Ok, Err, filter, Option, sym, refl, ap, ◌∙◌, arith}
 use Rattle.std.proofs.lemmas.Bool.{leb-true, leb-false, ltb-true, le-leb, lt-leb}
 use Rattle.std.proofs.lemmas.Bool.Decides.{nat_tests}
-use Rattle.std.specs.List.{prefix_len}
 use Rattle.events.specs.declared.event.Event.{Event}
 use Rattle.grammar.specs.Trees.{In, here, there}
 use Rattle.rules.specs.Rules.{Rule}
@@ -14,7 +13,7 @@ use Rattle.semantics.specs.Laws.{StandsAlike, IdleChangesNothing, KeptOtherwise,
 use Rattle.semantics.specs.Meaning.{Answers, Telling, Defined}
 use Rattle.semantics.specs.Trends.{All, Adjacent}
 use Rattle.semantics.specs.Windows.{window_start, window_end}
-use Rattle.semantics.proofs.Fronts.{Fades, all_filtered, filtered_twice, filtered_take, filtered_rest, filtered_dropped, drop_leading}
+use Rattle.semantics.proofs.Fronts.{Fades, all_filtered, filtered_twice, filtered_take, filtered_rest, filtered_dropped}
 use Rattle.semantics.proofs.Starts.{start_zero, starts_never_fall, next_start, ends_never_fall}
 
 -- what is not refused has passed every question
@@ -152,10 +151,7 @@ module _ {V R : Type 0} (kind : Kind V) (telling : Option (Telling V)) (rule : R
       let next = window_start s (suc (first h)) in
       ap reverse (kept_again h a) ∙ filtered_dropped (since next) (earlier_than next) (λ e. grind (arith, nat_tests)) (kept s h) (kept_fades h d.1 next)
 
-  -- the same by how many are dropped, as a loop counts them, and by how many are left
-  pub kept_by_drop : (h : History V) (a : Unit {0}) → Defined kind telling rule s (close (Ok a) ∷ h) → reverse (kept s (close (Ok a) ∷ h)) ≡ drop (prefix_len (earlier_than (window_start s (suc (first h)))) (reverse (kept s h))) (reverse (kept s h))
-  kept_by_drop h a d = kept_after_close h a d ∙ sym (drop_leading (earlier_than (window_start s (suc (first h)))) (reverse (kept s h)))
-
+  -- the same by how many are left
   pub kept_by_take : (h : History V) (a : Unit {0}) → Defined kind telling rule s (close (Ok a) ∷ h) → kept s (close (Ok a) ∷ h) ≡ front (length (kept s (close (Ok a) ∷ h))) (kept s h)
   kept_by_take h a d =
       let next = window_start s (suc (first h)) in

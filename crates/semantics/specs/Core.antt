@@ -4,12 +4,8 @@ use Rattle.std.specs.Prelude.{◌≡◌, Bool, true, false, cond, ◌&&◌, List
 use Rattle.events.specs.declared.event.Event.{Event}
 use Rattle.weights.specs.Kinds.{Kind}
 use Rattle.semantics.specs.Recursion.{Valued}
+pub use Rattle.semantics.specs.Recursion.{gathered}
 use Rattle.semantics.specs.Trends.{chosen}
-
--- the join of the values of the events that pass
-abbrev pub gathered : {V : Type 0} → Kind V → (Event → Bool) → List (Valued V) → V
-gathered kind test [] = kind.zero
-gathered kind test (p ∷ ps) = cond (test p.event) (kind.join p.value (gathered kind test ps)) (gathered kind test ps)
 
 -- of events in the order taken: from p on each may come next, and the last may end
 abbrev pub goes_on : (Event → Bool) → (Event → Event → Bool) → Event → List Event → Bool

@@ -1,6 +1,7 @@
 -- A history: the calls of an engine with their answers, the newest first, and what stands in it.
 -- After take(e) kept, tick(200) and close, the accepted events are e alone, the clock is 200 and the first open window is 1.
-use Rattle.std.specs.Prelude.{ℕ, suc, ◌+◌, Bool, false, cond, not, ◌&&◌, ◌||◌, List, [], ◌∷◌, Some, None, Ok, Err, filter, Option, Result, nat_eq, nat_le, nat_lt}
+use Rattle.std.specs.Prelude.{ℕ, suc, ◌+◌, Bool, cond, not, ◌&&◌, ◌||◌, List, [], ◌∷◌, Some, None, Ok, Err, drop, filter, Option, Result, nat_eq, nat_le, nat_lt}
+use Rattle.std.specs.List.{list_any, prefix_len}
 use Rattle.events.specs.declared.event.Event.{Event}
 use Rattle.events.specs.Types.{code_of}
 use Rattle.grammar.specs.Trees.{names}
@@ -63,16 +64,11 @@ earlier_than from e = nat_lt e.time from
 
 -- what is left without the leading ones that pass the test
 abbrev pub dropped_while : {X : Type 0} → (X → Bool) → List X → List X
-dropped_while test [] = []
-dropped_while test (x ∷ xs) = cond (test x) (dropped_while test xs) (x ∷ xs)
-
-abbrev pub any_of : {X : Type 0} → (X → Bool) → List X → Bool
-any_of test [] = false
-any_of test (x ∷ xs) = test x || any_of test xs
+dropped_while test xs = drop (prefix_len test xs) xs
 
 -- the pattern names the type with this code
 abbrev pub in_pattern : {R : Type 0} → Setup R → ℕ → Bool
-in_pattern s code = any_of (λ k. nat_eq (code_of k) code) (names (tree s.pattern))
+in_pattern s code = list_any (λ k. nat_eq (code_of k) code) (names (tree s.pattern))
 
 -- the accepted events whose type is in the pattern and that are not before the first open window, the newest first
 abbrev pub kept : {V R : Type 0} → Setup R → History V → List Event

@@ -1,6 +1,6 @@
 -- The value of an event: what all trends that end with it so far come to, from the values of its predecessors.
 -- Under Count and BATT+ with falling levels 50, 40, 45 the values are 1, 2 and 2, and they join to 5.
-use Rattle.std.specs.Prelude.{◌≡◌, ℕ, ◌+◌, ◌*◌, Bool, true, false, cond, ◌&&◌, ◌↔◌, List, [], ◌∷◌, map, ◌==◌, nat_le, nat_lt, slice_index_or}
+use Rattle.std.specs.Prelude.{◌≡◌, ℕ, Bool, true, false, cond, ◌&&◌, ◌↔◌, List, [], ◌∷◌, map, ◌==◌, nat_le, nat_lt, slice_index_or}
 use Rattle.events.specs.declared.event.Event.{Event}
 use Rattle.events.specs.Types.{code_of}
 use Rattle.grammar.specs.Words.{Word}
@@ -36,13 +36,18 @@ abbrev pub shape_of : Template → Shape
 shape_of r = record {
   starts = λ a. (a == code_of r.start);
   ends = λ a. (a == code_of r.end);
-  steps = λ a b. nat_lt a 10 && (nat_lt b 10 && slice_index_or r.marks.steps (10 * a + b) false);
+  steps = λ a b. nat_lt a 10 && (nat_lt b 10 && slice_index_or (slice_index_or r.marks.steps a []) b false);
 }
 
 -- an event with its value
 pub record Valued (V : Type 0) : Type 0 where
   pub event : Event
   pub value : V
+
+-- the join of the values of the events that pass
+abbrev pub gathered : {V : Type 0} → Kind V → (Event → Bool) → List (Valued V) → V
+gathered kind test [] = kind.zero
+gathered kind test (p ∷ ps) = cond (test p.event) (kind.join p.value (gathered kind test ps)) (gathered kind test ps)
 
 module _ {V R : Type 0} (kind : Kind V) (rule : Rule R) (s : Setup R) (shape : Shape) (k : ℕ) where
   abbrev pub in_window : Event → Bool
@@ -54,8 +59,7 @@ module _ {V R : Type 0} (kind : Kind V) (rule : Rule R) (s : Setup R) (shape : S
 
   -- the join of the values of the predecessors of e
   abbrev pub before : Event → List (Valued V) → V
-  before e [] = kind.zero
-  before e (p ∷ ps) = cond (precedes e p.event) (kind.join p.value (before e ps)) (before e ps)
+  before e ps = gathered kind (precedes e) ps
 
   -- the value of e, which comes after the events of the row (the newest first)
   abbrev pub value_of : Event → List (Valued V) → V
@@ -68,8 +72,7 @@ module _ {V R : Type 0} (kind : Kind V) (rule : Rule R) (s : Setup R) (shape : S
 
   -- the join of the values of the lift's events that may end a trend
   abbrev pub total : ℕ → List (Valued V) → V
-  total g [] = kind.zero
-  total g (p ∷ ps) = cond (p.event.lift == g && (in_window p.event && shape.ends p.event.kind)) (kind.join p.value (total g ps)) (total g ps)
+  total g ps = gathered kind (λ e. e.lift == g && (in_window e && shape.ends e.kind)) ps
 
 abbrev pub events_of : {V : Type 0} → List (Valued V) → List Event
 events_of = map (λ p. p.event)

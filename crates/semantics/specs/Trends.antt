@@ -1,6 +1,7 @@
 -- Trends and what they weigh. A trend is a choice among the accepted events, marked by a flag for each of them.
 -- Falling levels 50, 40, 45 under BATT+ have five trends: each reading alone, 50 40, and 50 45.
-use Rattle.std.specs.Prelude.{◌≡◌, ℕ, ◌<◌, Bool, true, false, List, [], ◌∷◌, map, length}
+use Rattle.std.specs.Prelude.{◌≡◌, ℕ, ◌<◌, Bool, List, [], ◌∷◌, map, length}
+use Rattle.std.specs.List.{AllByRecursion, items_where_true}
 use Rattle.events.specs.declared.event.Event.{Event}
 use Rattle.grammar.specs.Trees.{In, Distinct}
 use Rattle.grammar.specs.Words.{Word}
@@ -12,14 +13,11 @@ use Rattle.semantics.specs.Windows.{InWindow}
 
 -- the chosen ones, in their order
 abbrev pub chosen : {X : Type 0} → List Bool → List X → List X
-chosen [] xs = []
-chosen (b ∷ bs) [] = []
-chosen (true ∷ bs) (x ∷ xs) = x ∷ chosen bs xs
-chosen (false ∷ bs) (x ∷ xs) = chosen bs xs
+chosen = items_where_true
 
+-- P holds of each element, as pairs
 abbrev pub All : {X : Type 0} → (X → Type 0) → List X → Type 0
-All P [] = Unit {0}
-All P (x ∷ xs) = P x × All P xs
+All = AllByRecursion
 
 -- each but the first has this relation to the one before
 abbrev pub Adjacent : {X : Type 0} → (X → X → Type 0) → List X → Type 0

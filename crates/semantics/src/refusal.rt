@@ -1,12 +1,15 @@
 //! Why a call is refused.
-ghost use Rattle.std.specs.Prelude.{◌≡◌};
-ghost use Rattle.semantics.specs.Refusals.{number_of, taken_number};
+ghost use Rattle.std.specs.Prelude.{◌≡◌, Some};
+ghost use Rattle.semantics.specs.Refusals.{number_of, text_of, taken_number};
+
+use std::error::Error;
+use std::fmt;
 
 /// The first question that a call fails.
 #[derive(Clone, Copy, Debug, PartialEq, Eq)]
 pub enum CallRefusal {
     /// The memory has not exactly capacity places and eight slots a place.
-    Memory,
+    Memory = 21,
     /// The type's code is above 9.
     Type,
     /// The load is the largest number.
@@ -25,42 +28,49 @@ pub enum CallRefusal {
     Room,
 }
 
-impl CallRefusal {
-    /// The refusal's number, 21 to 29.
-    pub fn number(self) -> u8
-        ensures { result ≡ number_of self }
-    {
-        match self {
-            CallRefusal::Memory => 21,
-            CallRefusal::Type => 22,
-            CallRefusal::Load => 23,
-            CallRefusal::Clock => 24,
-            CallRefusal::Late => 25,
-            CallRefusal::Full => 26,
-            CallRefusal::Window => 27,
-            CallRefusal::Early => 28,
-            CallRefusal::Room => 29,
-        }
+/// The refusal's number, 21 to 29.
+impl From<CallRefusal> for u8 {
+    ghost from_gives = { λ refusal number. number ≡ number_of refusal };
+
+    fn from(refusal: CallRefusal) -> u8 {
+        refusal as u8
     }
 }
+
+impl fmt::Display for CallRefusal {
+    ghost output = { λ refusal. Some (text_of refusal) };
+
+    fn fmt<W: fmt::Write>(&self, f: &mut fmt::Formatter<W>) -> fmt::Result {
+        f.write_str(match self {
+            CallRefusal::Memory => "the memory does not fit the capacity",
+            CallRefusal::Type => "no event type has this code",
+            CallRefusal::Load => "the load is the largest number",
+            CallRefusal::Clock => "the time is before the clock",
+            CallRefusal::Late => "the first open window has ended by this time",
+            CallRefusal::Full => "as many events are kept as the capacity",
+            CallRefusal::Window => "the window is not open",
+            CallRefusal::Early => "the first open window has not ended",
+            CallRefusal::Room => "the bytes do not hold all records",
+        })
+    }
+}
+
+impl Error for CallRefusal {}
 
 /// What a take did with an event that it accepted.
 #[derive(Clone, Copy, Debug, PartialEq, Eq)]
 pub enum Taken {
     /// Its type is not in the pattern.
-    Passed,
+    Passed = 0,
     /// It is kept.
-    Kept,
+    Kept = 1,
 }
 
-impl Taken {
-    /// What take answers: 0 for an event passed over, 1 for one kept.
-    pub fn number(self) -> u8
-        ensures { result ≡ taken_number self }
-    {
-        match self {
-            Taken::Passed => 0,
-            Taken::Kept => 1,
-        }
+/// What take answers: 0 for an event passed over, 1 for one kept.
+impl From<Taken> for u8 {
+    ghost from_gives = { λ taken number. number ≡ taken_number taken };
+
+    fn from(taken: Taken) -> u8 {
+        taken as u8
     }
 }

@@ -5,6 +5,7 @@ ghost use Rattle.semantics.specs.Windows.{window_start, window_end, pane};
 use crate::setup::Setup;
 
 impl<R> Setup<R> {
+    #[tactic(auto, unfolding(crate::specs::Windows::window_start))]
     fn begins(&self, window: u64) -> u64
         requires { window ≤ 4294967303 }
         ensures { result ≡ window_start self.now window }
@@ -27,6 +28,7 @@ impl<R> Setup<R> {
     }
 
     /// How many whole slides lie between the origin and this time, 0 where it is before the origin.
+    #[tactic(auto, unfolding(crate::specs::Windows::pane))]
     pub fn pane(&self, time: u32) -> u32
         ensures { result ≡ pane self.now time }
     {
