@@ -22,10 +22,12 @@ module _ {V : Type 0} (kind : Kind V) (slots : List V) (k : ℕ) (es : List Even
       ∙ ap (λ d. row kind slots k (d ∷ reverse (take i es))) (sym is)
       ∙ ap (λ (n : ℕ). record { event = e; value = slot kind slots n k } ∷ row kind slots k (reverse (take i es))) (length-reverse (take i es) ∙ length-take-le i es (omega arith))
 
-  pub gathered_more : (test : Event → Bool) (sum : V) → sum ≡ gathered kind test (row kind slots k (reverse (take i es)))
-      → cond (test e) (kind.join (slot kind slots i k) sum) sum ≡ gathered kind test (row kind slots k (reverse (take (i + 1) es)))
-  gathered_more test sum h =
-      ap (λ v. cond (test e) (kind.join (slot kind slots i k) v) v) h ∙ sym (ap (gathered kind test) row_more)
+  pub gathered_more : (test : Event → Bool) (b : Bool) (sum more : V) → sum ≡ gathered kind test (row kind slots k (reverse (take i es))) → b ≡ test e → more ≡ cond b (kind.join (slot kind slots i k) sum) sum
+      → more ≡ gathered kind test (row kind slots k (reverse (take (i + 1) es)))
+  gathered_more test b sum more h tested so =
+      so
+      ∙ ap₂ (λ a v. cond a (kind.join (slot kind slots i k) v) v) tested h
+      ∙ sym (ap (gathered kind test) row_more)
 
 -- where no event is past the end of window k, the join of the ends not before its start is the total of the window
 pub total_gathered : {V R : Type 0} (kind : Kind V) (rule : Rule R) (s : Setup R) (template : Template) (slots : List V) (k g : ℕ) (es : List Event) → ((e : Event) → In e es → e.time < window_end s k)

@@ -8,10 +8,14 @@ use Rattle.semantics.specs.Recursion.{Shape, Valued}
 use Rattle.semantics.specs.Windows.{window_start}
 use Rattle.weights.specs.Kinds.{Kind}
 
+-- which slot window k uses at this place
+abbrev pub slot_index : (place k : ℕ) → ℕ
+slot_index place k = 8 * place + k % 8
+
 module _ {V : Type 0} (kind : Kind V) where
   -- the slot of window k at this place
   abbrev pub slot : List V → (place k : ℕ) → V
-  slot slots place k = slice_index_or slots (8 * place + k % 8) kind.zero
+  slot slots place k = slice_index_or slots (slot_index place k) kind.zero
 
   -- each event, the newest first, with its slot of window k: its place is the number of events before it
   abbrev pub row : List V → (k : ℕ) → List Event → List (Valued V)
@@ -22,11 +26,17 @@ module _ {V : Type 0} (kind : Kind V) where
   pub record Written (before after : List V) (place first end : ℕ) (f : ℕ → V) : Type 0 where
     pub long : length after ≡ length before
     pub new : (k : ℕ) → first ≤ k → k < end → slot after place k ≡ f k
-    pub others : (i : ℕ) → ((k : ℕ) → first ≤ k → k < end → i ≢ 8 * place + k % 8) → slice_index_or after i kind.zero ≡ slice_index_or before i kind.zero
+    pub others : (i : ℕ) → ((k : ℕ) → first ≤ k → k < end → i ≢ slot_index place k) → slice_index_or after i kind.zero ≡ slice_index_or before i kind.zero
 
--- the slot of window k at this place, joined by that of an older event if the window has begun at its time
-abbrev pub joined_slot : {V R : Type 0} → Kind V → Setup R → List V → (older time place k : ℕ) → V
-joined_slot kind s slots older time place k = cond (nat_le (window_start s k) time) (kind.join (slot kind slots older k) (slot kind slots place k)) (slot kind slots place k)
+  -- the first place's slots of those windows were written: gives holds of k, the slot before and the slot after; all others stay
+  pub record Rewritten (before after : List V) (first end : ℕ) (gives : ℕ → V → V → Type 0) : Type 0 where
+    pub long : length after ≡ length before
+    pub new : (k : ℕ) → first ≤ k → k < end → gives k (slot before 0 k) (slot after 0 k)
+    pub others : (i : ℕ) → ((k : ℕ) → first ≤ k → k < end → i ≢ slot_index 0 k) → slice_index_or after i kind.zero ≡ slice_index_or before i kind.zero
+
+-- the sum, joined by the slot of window k of an older event if the window has begun at its time
+abbrev pub joined_slot : {V R : Type 0} → Kind V → Setup R → List V → (older time k : ℕ) → V → V
+joined_slot kind s slots older time k sum = cond (nat_le (window_start s k) time) (kind.join (slot kind slots older k) sum) sum
 
 -- p may come right before e in the windows that hold both
 abbrev pub may_come_before : {R : Type 0} → Rule R → Setup R → Shape → Event → Event → Bool

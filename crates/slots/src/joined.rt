@@ -3,6 +3,7 @@ ghost use Rattle.std.specs.Prelude.{◌≡◌, ◌*◌, ◌≤◌, reverse, leng
 ghost use Rattle.semantics.specs.Core.{gathered};
 ghost use Rattle.slots.specs.Rows.{row, ends_by};
 
+use crate::place::slot_of;
 use events::Event;
 use weights::Weight;
 
@@ -18,12 +19,11 @@ pub fn joined_slots<W: Weight>(
     requires { 8 * length events.now ≤ length slots.now }
     ensures { result ≡ gathered W.Weight.kind (ends_by lift ends from) (row W.Weight.kind slots.now window (reverse events.now)) }
 {
-    let slot = (window % 8) as usize;
     let mut sum = W::zero();
-    for (i, event) in events.iter().enumerate() {
-        let event = *event;
+    // The index is the event's place among the slots.
+    for (i, &event) in events.iter().enumerate() {
         if ends_by(event, lift, ends, from) {
-            sum = slots[8 * i + slot].join(sum);
+            sum = slots[slot_of(i, window)].join(sum);
         }
     }
     sum

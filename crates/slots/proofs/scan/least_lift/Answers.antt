@@ -1,30 +1,18 @@
-use Rattle.std.proofs.Common.{◌+◌, drop, sym, ap, ◌∙◌, subst, arith}
-use Rattle.std.proofs.lemmas.List.{at_drop_more, at_drop_all}
+use Rattle.std.proofs.Common.{rules, sym, ◌∙◌, subst}
+use borrow.Author.Tests.{tests}
+use Rattle.std.proofs.lemmas.Iterator.{YieldsList-from_slice, YieldsList-from_map}
+use Rattle.std.proofs.lemmas.Iterator.Consumers.{min_from_yields_List, YieldsList-from_filter, YieldsList-at}
+use Rattle.std.proofs.lemmas.Iterator.Adapters.{option_map_id}
 use Rattle.semantics.specs.Meaning.{LeastLift}
-use Rattle.slots.specs.Lifts.{event_lift, lesser, least}
-use Rattle.slots.proofs.Lifts.{lesser_assoc, lesser_none, least_is}
+use Rattle.slots.proofs.Lifts.{found, least_is}
 use Rattle.slots.proofs.scan.least_lift.Goals as goal
-
-pub loop-event-preserved : goal.loop-event-preserved
-loop-event-preserved c =
-    let from = c.args.from in
-    let g = c.args.lift in
-    let es = c.args.events.now in
-    let i = c.loop-event.event-index in
-    let e = c.event-item.result in
-    let rest = least from g (drop (i + 1) es) in
-    ap (λ o. lesser o rest) (c.lesser-least.ensures ∙ ap (lesser c.loop-event.least) c.lift_of.ensures)
-    ∙ lesser_assoc c.loop-event.least (event_lift from g e) rest
-    ∙ ap (λ d. lesser c.loop-event.least (lesser (event_lift from g d) rest)) c.event-item.is
-    ∙ ap (lesser c.loop-event.least) (sym (at_drop_more (least from g) es i e (omega arith)))
-    ∙ c.loop-event.invariant
 
 pub returns : goal.returns
 returns c =
-    let es = c.args.events.now in
-    let same =
-    sym (lesser_none c.loop-event.least)
-    ∙ ap (lesser c.loop-event.least) (sym (at_drop_all (least c.args.from c.args.lift) es c.loop-event.event-index c.loop-event-test.false))
-    ∙ c.loop-event.invariant
-    in
-    subst (LeastLift es c.args.from c.args.lift) (sym same) (least_is c.args.from c.args.lift es)
+    let is =
+    min_from_yields_List {v = λ x. x} c.map.result c.min.result c.min.ensures.ran
+    (YieldsList-from_map _ (λ e. e.lift)
+    (YieldsList-at c.map.ensures.source
+    (YieldsList-from_filter _ (found c.args.from c.args.lift) (YieldsList-from_slice c.args.events.now cc) c.filter.ensures.closure (λ x r q k. (search (rules, tests), search (rules, tests)))))
+    c.map.ensures.closure (λ x r q k. search (rules, tests)))
+    in subst (LeastLift c.args.events.now c.args.from c.args.lift) (sym is ∙ option_map_id c.min.result) (least_is c.args.from c.args.lift c.args.events.now)
