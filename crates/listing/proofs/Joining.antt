@@ -15,10 +15,6 @@ module _ {V R : Type 0} (kind : Kind V) (laws : Laws kind) (rule : Rule R) (s : 
   abbrev Owes : (start from : List Bool) → V → Type 0
   Owes start from all = (v : V) → JoinsAfter rule s k g events kind from v → JoinsAfter rule s k g events kind start (kind.join all v)
 
-  pub nothing_joined : (start : List Bool) {all : V} → all ≡ kind.zero → Owes start start all
-  nothing_joined start z v j =
-      subst (JoinsAfter rule s k g events kind start) (sym (ap (λ a. kind.join a v) z ∙ laws.joining.monoid.identity_left v)) j
-
   pub one_joined : (start from to : List Bool) {all more w : V} → Owes start from all → FirstAfter rule s k g events from to → w ≡ weight kind (chosen to events) → more ≡ kind.join all w → Owes start to more
   one_joined start from to {all} {more} {w} owes f e sum v j =
       subst (JoinsAfter rule s k g events kind start) (sym (ap (λ a. kind.join a v) sum ∙ laws.joining.monoid.assoc all w v))

@@ -1,24 +1,19 @@
--- Places count the choices: each has its own, and each number below their count is one's place.
-use Rattle.std.proofs.Common.{◌≡◌, ℕ, zero, suc, ◌+◌, ◌-◌, ◌*◌, ◌/◌, ◌%◌, ◌<◌, ◌≤◌, min, Bool, true, false, cond, List, [], ◌∷◌, ◌++◌, length, get_or, take, drop, set, sym, refl, ap, ◌∙◌, ap₂, append_assoc, append-nil, arith, length-drop, length-set}
-use native.Mathlib.Decide.{dec_le}
+-- Places count the choices: each has its own, and each number below 2 ^ (number of marks) is one's place.
+use Rattle.std.proofs.Common.{◌≡◌, ℕ, zero, suc, ◌+◌, ◌-◌, ◌*◌, ◌/◌, ◌%◌, ◌^◌, ◌<◌, ◌≤◌, Bool, true, false, cond, List, [], ◌∷◌, ◌++◌, length, get_or, take, drop, set, sym, refl, ap, ◌∙◌, ap₂, append_assoc, arith, length-append, length-set}
 use mir.Val.{bool_byte}
-use Rattle.std.proofs.lemmas.List.{drop_more, drop_all, take_all, take_more_set}
+use Rattle.std.proofs.Math.Nat.{pow-succ'}
+use Rattle.std.proofs.Math.Pow.{pow_mono}
+use Rattle.std.proofs.lemmas.List.{drop_more, take_more_set}
 use Rattle.std.proofs.lemmas.Bool.{eq-eqb, ne_eqb, cond-true, cond-false}
 use Rattle.std.proofs.lemmas.Bool.Decides.{nat_tests}
 use Rattle.semantics.specs.Trends.{chosen}
 use Rattle.listing.specs.Order.{place}
-use Rattle.listing.specs.Walk.{choices, odd, marks_at, picked}
+use Rattle.listing.specs.Walk.{odd, marks_at, picked}
 
-pub place_below : (m : List Bool) → place m < choices (length m)
+pub place_below : (m : List Bool) → place m < 2 ^ length m
 place_below [] = omega arith
-place_below (true ∷ m) = omega (arith, place_below m)
-place_below (false ∷ m) = omega (arith, place_below m)
-
-pub choices_rise : (l n : ℕ) → l ≤ n → choices l ≤ choices n
-choices_rise zero zero h = omega arith
-choices_rise zero (suc n) h = omega (arith, choices_rise zero n (omega arith))
-choices_rise (suc l) zero h = absurd (omega arith)
-choices_rise (suc l) (suc n) h = omega (arith, choices_rise l n (omega arith))
+place_below (true ∷ m) = omega (arith, place_below m, pow-succ' 2 (length m))
+place_below (false ∷ m) = omega (arith, place_below m, pow-succ' 2 (length m))
 
 pub marks_length : (l n : ℕ) → length (marks_at l n) ≡ l
 marks_length zero n = refl
@@ -27,9 +22,9 @@ marks_length (suc l) n = ap suc (marks_length l (n / 2))
 bit_of : (n : ℕ) → cond (odd n) 1 0 ≡ n % 2
 bit_of n = grind (arith, nat_tests)
 
-pub place_of : (l n : ℕ) → n < choices l → place (marks_at l n) ≡ n
+pub place_of : (l n : ℕ) → n < 2 ^ l → place (marks_at l n) ≡ n
 place_of zero n h = omega arith
-place_of (suc l) n h = let e = place_of l (n / 2) (omega arith) in omega (arith, bit_of n)
+place_of (suc l) n h = let e = place_of l (n / 2) (omega (arith, pow-succ' 2 l)) in omega (arith, bit_of n)
 
 -- the marks are had back from their place
 pub marks_back : (m : List Bool) → marks_at (length m) (place m) ≡ m
@@ -47,13 +42,6 @@ picked_chosen n [] = refl
 picked_chosen n (x ∷ xs) =
     elim (odd n) as (λ b. cond b (x ∷ picked (n / 2) xs) (picked (n / 2) xs) ≡ chosen (b ∷ marks_at (length xs) (n / 2)) (x ∷ xs)) [ true ↦ ap (λ c. x ∷ c) (picked_chosen (n / 2) xs) | false ↦ picked_chosen (n / 2) xs ]
 
--- counting down
-pub drop_down : {X : Type 0} (xs : List X) (i : ℕ) (d : X) → 0 < i → i ≤ length xs → drop (i - 1) xs ≡ get_or xs (i - 1) d ∷ drop i xs
-drop_down xs i d p h = drop_more xs (i - 1) d (omega arith) ∙ ap (λ j. get_or xs (i - 1) d ∷ drop j xs) (omega arith)
-
-pub place_small : (m : List Bool) (i : ℕ) → length m ≤ 16 → place (drop i m) < 65536
-place_small m i h = omega (arith, place_below (drop i m), choices_rise (length (drop i m)) 16 (omega (arith, length-drop i m)))
-
 marks_more : (l n : ℕ) → 0 < l → marks_at l n ≡ odd n ∷ marks_at (l - 1) (n / 2)
 marks_more zero n h = absurd (omega arith)
 marks_more (suc l) n h = ap (λ j. odd n ∷ marks_at j (n / 2)) (omega arith)
@@ -68,12 +56,6 @@ marks_set m i n bits h e =
     ∙ ap (λ l. take i m ++ l) (sym (marks_more (length m - i) bits (omega arith)))
     ∙ e)
 
--- all are
-pub marks_done : (m : List Bool) (i n bits : ℕ) → length m ≤ i → take i m ++ marks_at (length m - i) bits ≡ marks_at (length m) n → m ≡ marks_at (length m) n
-marks_done m i n bits h e =
-    let none : length m - i ≡ 0 = omega arith in
-    sym (ap₂ (λ a l. a ++ marks_at l bits) (take_all i m h) none ∙ append-nil m) ∙ e
-
 -- the next event is picked, or not
 module _ {X : Type 0} (xs : List X) (i bits : ℕ) (x : X) (h : i < length xs) (is : x ≡ get_or xs i x) where
   next_picked : picked bits (drop i xs) ≡ cond (odd bits) (x ∷ picked (bits / 2) (drop (i + 1) xs)) (picked (bits / 2) (drop (i + 1) xs))
@@ -85,36 +67,18 @@ module _ {X : Type 0} (xs : List X) (i bits : ℕ) (x : X) (h : i < length xs) (
   pub picked_even : (bits % 2 ≡ 1 → ⊥) → picked bits (drop i xs) ≡ picked (bits / 2) (drop (i + 1) xs)
   picked_even o = next_picked ∙ cond-false (odd bits) (x ∷ picked (bits / 2) (drop (i + 1) xs)) (picked (bits / 2) (drop (i + 1) xs)) (ne_eqb (bits % 2) 1 o)
 
-one_more : {X : Type 0} (xs : List X) (i : ℕ) → 0 < i → i ≤ length xs → (x : X) × (drop (i - 1) xs ≡ x ∷ drop i xs)
-one_more [] i p h = absurd (omega arith)
-one_more (x ∷ xs) i p h = (get_or (x ∷ xs) (i - 1) x, drop_down (x ∷ xs) i x p h)
-
--- counting down along marks and events
-module _ {X : Type 0} (ms : List Bool) (xs : List X) where
-  pub chosen_past : (n : ℕ) → n ≡ min (length xs) (length ms) → chosen (drop n ms) (drop n xs) ≡ []
-  chosen_past n e = elim (dec_le (length ms) n) [
-    | yes h ↦ ap (λ l. chosen l (drop n xs)) (drop_all n ms h)
-    | no h ↦ ap (chosen (drop n ms)) (drop_all n xs (omega arith)) ∙ chosen_nothing (drop n ms)
-  ]
-    where
-      chosen_nothing : (m : List Bool) → chosen {X = X} m [] ≡ []
-      chosen_nothing [] = refl
-      chosen_nothing (b ∷ m) = refl
-
-  module _ (i : ℕ) (p : 0 < i) (h : i ≤ min (length xs) (length ms)) where
-    pub chosen_more : (x : X) → x ≡ get_or xs (i - 1) x → get_or ms (i - 1) false ≡ true → chosen (drop (i - 1) ms) (drop (i - 1) xs) ≡ x ∷ chosen (drop i ms) (drop i xs)
-    chosen_more x is e =
-        ap₂ chosen (drop_down ms i false p (omega arith) ∙ ap (λ b. b ∷ drop i ms) e) (drop_down xs i x p (omega arith) ∙ ap (λ y. y ∷ drop i xs) (sym is))
-
-    pub chosen_less : get_or ms (i - 1) false ≡ false → chosen (drop (i - 1) ms) (drop (i - 1) xs) ≡ chosen (drop i ms) (drop i xs)
-    chosen_less e =
-        let (x, d) = one_more xs i p (omega arith) in
-        ap₂ chosen (drop_down ms i false p (omega arith) ∙ ap (λ b. b ∷ drop i ms) e) d
-
 byte_of : (b : Bool) → bool_byte b ≡ cond b 1 0
 byte_of true = refl
 byte_of false = refl
 
--- counting down along marks
-pub place_more : (m : List Bool) (i : ℕ) → 0 < i → i ≤ length m → 2 * place (drop i m) + bool_byte (get_or m (i - 1) false) ≡ place (drop (i - 1) m)
-place_more m i p h = omega (arith, ap place (drop_down m i false p h), byte_of (get_or m (i - 1) false))
+-- one more mark before those that are done
+pub one_more_done : (rest done : List Bool) (b : Bool) (marks : List Bool) → length marks ≤ 16 → (rest ++ b ∷ []) ++ done ≡ marks
+    → (rest ++ (b ∷ done) ≡ marks) × (2 * place done + bool_byte b ≡ place (b ∷ done)) × (place (b ∷ done) < 65536)
+one_more_done rest done b marks few is =
+    let split : rest ++ (b ∷ done) ≡ marks = sym (append_assoc rest (b ∷ []) done) ∙ is in
+    let short : length (b ∷ done) ≤ 16 = omega (arith, length-append rest (b ∷ done), ap length split) in
+    (split, omega (arith, byte_of b), omega (arith, place_below (b ∷ done), pow_mono short))
+
+-- so many choices there are
+pub one_shifted : (n : ℕ) → n ≤ 16 → (1 * 2 ^ n) % 4294967296 ≡ 2 ^ n
+one_shifted n few = omega (arith, pow_mono few)

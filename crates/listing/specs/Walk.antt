@@ -1,17 +1,13 @@
 -- Choices as numbers, and the walk along the chosen events: tools of the proof.
-use Rattle.std.specs.Prelude.{ℕ, zero, suc, ◌*◌, ◌/◌, ◌%◌, Bool, false, cond, ◌&&◌, List, [], ◌∷◌, Some, None, Option, ◌==◌, nat_le, nat_lt}
+use Rattle.std.specs.Prelude.{ℕ, zero, suc, ◌/◌, ◌%◌, ◌<◌, Bool, false, cond, ◌&&◌, List, [], ◌∷◌, length, Some, None, Option, ◌==◌, nat_le, nat_lt}
 use Rattle.events.specs.declared.event.Event.{Event}
 use Rattle.events.specs.Types.{code_of}
 use Rattle.pattern.specs.declared.template.Template.{Template}
 use Rattle.rules.specs.Rules.{Rule}
 use Rattle.semantics.specs.declared.setup.Setup.{Setup}
 use Rattle.semantics.specs.Recursion.{shape_of}
+use Rattle.semantics.specs.Trends.{Trend}
 use Rattle.semantics.specs.Windows.{window_start, window_end}
-
--- how many choices among so many events there are
-abbrev pub choices : ℕ → ℕ
-choices zero = 1
-choices (suc n) = 2 * choices n
 
 abbrev pub odd : ℕ → Bool
 odd n = n % 2 == 1
@@ -43,3 +39,15 @@ module _ {R : Type 0} (rule : Rule R) (s : Setup R) (r : Template) (k : ℕ) whe
   abbrev pub leads : ℕ → Option Event → List Event → Bool
   leads g p [] = may_end g p
   leads g p (e ∷ es) = may_come p e && leads g (Some e) es
+
+module _ {R : Type 0} (rule : Rule R) (s : Setup R) (k g : ℕ) (events : List Event) where
+  -- no trend has a place between these two
+  abbrev pub NoTrendBetween : ℕ → ℕ → Type 0
+  NoTrendBetween from to = (n : ℕ) → from < n → n < to → Trend rule s k g events (marks_at (length events) n) → ⊥
+
+  -- of the trends with a place between from and end, the one at n is the first
+  pub record IsFirstBetween (from end n : ℕ) : Type 0 where
+    pub above : from < n
+    pub below : n < end
+    pub trend : Trend rule s k g events (marks_at (length events) n)
+    pub none_before : NoTrendBetween from n

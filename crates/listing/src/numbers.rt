@@ -1,19 +1,7 @@
 //! Choices as numbers: the first flag counts 1, the second 2, the third 4.
 ghost use Rattle.std.specs.Prelude.{◌≡◌, ◌≤◌, length};
 ghost use Rattle.listing.specs.Order.{place};
-ghost use Rattle.listing.specs.Walk.{choices, marks_at};
-
-/// How many choices so many marks can be.
-pub(crate) fn choices_of(marks: &[bool]) -> u32
-    requires { length marks.now ≤ 16 }
-    ensures { result ≡ choices (length marks.now) }
-{
-    let mut all = 1;
-    for _mark in marks {
-        all *= 2;
-    }
-    all
-}
+ghost use Rattle.listing.specs.Walk.{marks_at};
 
 /// Where the marks stand in counting order.
 pub(crate) fn place_of(marks: &[bool]) -> u32
@@ -21,8 +9,8 @@ pub(crate) fn place_of(marks: &[bool]) -> u32
     ensures { result ≡ place marks.now }
 {
     let mut place = 0;
-    for i in (0..marks.len()).rev() {
-        place = 2 * place + u32::from(marks[i]);
+    for &mark in marks.iter().rev() {
+        place = 2 * place + u32::from(mark);
     }
     place
 }

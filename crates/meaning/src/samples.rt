@@ -1,11 +1,24 @@
 //! The streams, and how each is looked at.
-use events::EventType;
+use events::{Event, EventType};
 
 pub const LIFT: u16 = 7;
 
 /// Of an event: type, level and time. Each has load 1.
 #[derive(Clone, Copy)]
 pub struct Row(pub EventType, pub u16, pub u32);
+
+impl From<Row> for Event {
+    fn from(row: Row) -> Event {
+        let Row(kind, level, time) = row;
+        Event {
+            time,
+            lift: LIFT,
+            kind: u8::from(kind),
+            level,
+            load: 1,
+        }
+    }
+}
 
 #[derive(Clone, Copy)]
 pub struct Sample {

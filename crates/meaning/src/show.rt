@@ -1,39 +1,53 @@
 //! What is printed for one stream.
-use crate::samples::{LIFT, Row, Sample};
+use crate::samples::{LIFT, Sample};
 use events::{Event, EventType};
-use listing::{next_trend, result_of};
+use listing::Scope;
 use pattern::Pattern;
 use rules::{Falling, Follow, Near};
 use semantics::setup::Setup;
 use std::alloc::{AllocError, Global};
+use std::fmt;
 use weights::{Count, Least, LeastWays, Most};
 
+/// An event after a space; nothing if its type is unknown.
+#[derive(Clone, Copy)]
+struct Shown(Event);
+
+impl fmt::Display for Shown {
+    fn fmt<W: fmt::Write>(&self, f: &mut fmt::Formatter<W>) -> fmt::Result {
+        let Event { level, time, .. } = self.0;
+        match EventType::try_from(self.0.kind) {
+            Ok(kind) => write!(f, " {kind}/{level}@{time}"),
+            Err(_) => Ok(()),
+        }
+    }
+}
+
 /// The stream, its trends in counting order, and the four answers.
+// A function and no `Display`, since the events need the allocator.
 pub fn show(heap: Global, sample: Sample) -> Result<String, AllocError> {
     let mut out = String::new(heap);
-    let title = sample.title;
-    let text = sample.pattern;
-    out.push_str(format!(in heap; "{title}: {text}")?.as_str())?;
-    let events = events_of(heap, sample.rows)?;
+    let Sample {
+        title,
+        pattern: text,
+        gap,
+        rows,
+    } = sample;
+    write!(out, "{title}: {text}")?;
     let Ok(pattern) = Pattern::parse(text.as_bytes()) else {
-        out.push_str(" is no pattern\n")?;
+        writeln!(out, " is no pattern")?;
         return Ok(out);
     };
-    match sample.gap {
+    let events: Vec<Event> = rows.iter().map(|row| Event::from(*row)).collect(heap)?;
+    match gap {
         None => {
-            out.push_str(" with falling levels\n")?;
-            push_meaning(
-                &mut out,
-                heap,
-                &setup_of(pattern, Falling),
-                events.as_slice(),
-            )?;
+            writeln!(out, " with falling levels")?;
+            push_meaning(&mut out, &setup_of(pattern, Falling), events.as_slice())?;
         }
         Some(gap) => {
-            out.push_str(format!(in heap; " with gaps up to {gap}\n")?.as_str())?;
+            writeln!(out, " with gaps up to {gap}")?;
             push_meaning(
                 &mut out,
-                heap,
                 &setup_of(pattern, Near { gap }),
                 events.as_slice(),
             )?;
@@ -53,101 +67,58 @@ fn setup_of<R>(pattern: Pattern, rule: R) -> Setup<R> {
     }
 }
 
-fn events_of(heap: Global, rows: &[Row]) -> Result<Vec<Event>, AllocError> {
-    let mut events = Vec::new(heap);
-    for row in rows {
-        events.push(event_of(*row))?;
-    }
-    Ok(events)
-}
-
-fn event_of(row: Row) -> Event {
-    let Row(kind, level, time) = row;
-    Event {
-        time,
-        lift: LIFT,
-        kind: kind.code(),
-        level,
-        load: 1,
-    }
-}
-
+// Functions that write into the text of `show`: as `Display`, the three below would be three structs more.
 fn push_meaning<R: Follow>(
     out: &mut String,
-    heap: Global,
     setup: &Setup<R>,
     events: &[Event],
 ) -> Result<(), AllocError> {
-    out.push_str("    events")?;
-    for event in events {
-        push_event(out, heap, *event)?;
+    write!(out, "    events")?;
+    for &event in events {
+        write!(out, "{}", Shown(event))?;
     }
-    out.push('\n')?;
-    push_trends(out, heap, setup, events)?;
-    push_answers(out, heap, setup, events)
+    writeln!(out)?;
+    let scope = Scope {
+        setup,
+        window: 0,
+        lift: LIFT,
+        events,
+    };
+    push_trends(out, &scope)?;
+    push_answers(out, &scope)
 }
 
-fn push_event(out: &mut String, heap: Global, event: Event) -> Result<(), AllocError> {
-    if let Some(kind) = EventType::from_code(event.kind) {
-        let name = kind.name();
-        let level = event.level;
-        let time = event.time;
-        out.push_str(format!(in heap; " {name}/{level}@{time}")?.as_str())?;
-    }
-    Ok(())
-}
-
-fn push_trends<R: Follow>(
-    out: &mut String,
-    heap: Global,
-    setup: &Setup<R>,
-    events: &[Event],
-) -> Result<(), AllocError> {
+fn push_trends<R: Follow>(out: &mut String, scope: &Scope<R>) -> Result<(), AllocError> {
+    // Sixteen flags at most: an `ArrayVec` would be filled first to be lent.
     let mut marks = [false; 16];
-    let marks = &mut marks[..events.len().min(16)];
-    for _ in 0..65536 {
-        if !next_trend(setup, 0, LIFT, events, marks) {
-            break;
-        }
-        out.push_str("    trend")?;
-        for (event, mark) in events.iter().zip(marks.iter()) {
-            if *mark {
-                push_event(out, heap, *event)?;
+    let marks = &mut marks[..scope.events.len().min(16)];
+    while scope.next_trend(marks) {
+        write!(out, "    trend")?;
+        for (&event, &mark) in scope.events.iter().zip(marks.iter()) {
+            if mark {
+                write!(out, "{}", Shown(event))?;
             }
         }
-        out.push('\n')?;
+        writeln!(out)?;
     }
     Ok(())
 }
 
-fn push_answers<R: Follow>(
-    out: &mut String,
-    heap: Global,
-    setup: &Setup<R>,
-    events: &[Event],
-) -> Result<(), AllocError> {
-    if let Some(all) = result_of::<Count, R>(setup, 0, LIFT, events) {
-        let number = all.number;
-        out.push_str(format!(in heap; "    count {number}\n")?.as_str())?;
+fn push_answers<R: Follow>(out: &mut String, scope: &Scope<R>) -> Result<(), AllocError> {
+    if let Some(Count { number }) = scope.result() {
+        writeln!(out, "    count {number}")?;
     }
-    if let Some(all) = result_of::<Least, R>(setup, 0, LIFT, events) {
-        let weight = all.weight;
-        out.push_str(format!(in heap; "    least {weight}\n")?.as_str())?;
+    if let Some(Least { weight }) = scope.result() {
+        writeln!(out, "    least {weight}")?;
     }
-    if let Some(all) = result_of::<LeastWays, R>(setup, 0, LIFT, events) {
-        let weight = all.weight;
-        let ways = all.ways;
-        out.push_str(format!(in heap; "    least {weight} in {ways} ways\n")?.as_str())?;
+    if let Some(LeastWays { weight, ways }) = scope.result() {
+        writeln!(out, "    least {weight} in {ways} ways")?;
     }
-    if let Some(all) = result_of::<Most, R>(setup, 0, LIFT, events) {
-        push_most(out, heap, all.weight)?;
+    if let Some(Most { weight }) = scope.result() {
+        match weight {
+            Some(weight) => writeln!(out, "    most {weight}")?,
+            None => writeln!(out, "    most nothing")?,
+        }
     }
     Ok(())
-}
-
-fn push_most(out: &mut String, heap: Global, weight: Option<u32>) -> Result<(), AllocError> {
-    match weight {
-        Some(weight) => out.push_str(format!(in heap; "    most {weight}\n")?.as_str()),
-        None => out.push_str("    most nothing\n"),
-    }
 }

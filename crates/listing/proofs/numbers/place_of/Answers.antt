@@ -1,21 +1,15 @@
-use Rattle.std.proofs.Common.{◌-◌, sym, ap, arith}
-use lib.Seq.{drop-length}
-use Rattle.listing.specs.Order.{place}
-use Rattle.listing.proofs.Places.{place_more, place_small}
+use Rattle.std.proofs.Common.{◌∷◌, ◌++◌, ap, sym, ◌∙◌, arith}
+use Rattle.listing.proofs.Places.{one_more_done}
 use Rattle.listing.proofs.numbers.place_of.Goals as goal
 
-pub loop-i-init : goal.loop-i-init
-loop-i-init c = sym (ap place (drop-length c.args.marks.now))
-
 pub overflow_mul-place : goal.overflow_mul-place
-overflow_mul-place c = omega (arith, c.loop-i.invariant, place_small c.args.marks.now c.loop-i.i c.requires)
+overflow_mul-place c =
+    let (done, is, at) = c.loop-mark.invariant.2 in
+    let m = one_more_done _ done c.in-Some.field-0.now c.args.marks.now c.requires (ap (λ l. l ++ done) (sym c.in-Some.ensures.steps) ∙ is) in
+    omega (arith, at, m.1, m.2)
 
 pub overflow_add-place : goal.overflow_add-place
 overflow_add-place c =
-    let m = c.args.marks.now in
-    let i = c.loop-i.i in
-    omega (arith, c.loop-i.invariant, c.from.ensures, place_more m i c.loop-i-test.true c.loop-i.auto.i, place_small m (i - 1) c.requires)
-
-pub loop-i-preserved : goal.loop-i-preserved
-loop-i-preserved c =
-    omega (arith, c.loop-i.invariant, c.from.ensures, place_more c.args.marks.now c.loop-i.i c.loop-i-test.true c.loop-i.auto.i)
+    let (done, is, at) = c.loop-mark.invariant.2 in
+    let m = one_more_done _ done c.in-Some.field-0.now c.args.marks.now c.requires (ap (λ l. l ++ done) (sym c.in-Some.ensures.steps) ∙ is) in
+    omega (arith, at, c.from.ensures, m.1, m.2)

@@ -1,19 +1,28 @@
-use Rattle.std.proofs.Common.{sym, ap, ◌∙◌, ap₂, arith}
-use Rattle.semantics.specs.Trends.{weight}
-use Rattle.listing.proofs.Places.{chosen_past, chosen_more, chosen_less}
+use Rattle.std.proofs.Common.{◌≡◌, Bool, true, false, List, [], ◌∷◌, fold, filter, sym, ap, ◌∙◌, rules}
+use Rattle.std.proofs.lemmas.Iterator.{YieldsList-from_slice, YieldsList-from_zip}
+use Rattle.std.proofs.lemmas.Iterator.Consumers.{YieldsList-from_filter, fold_from_yields_List}
+use Rattle.std.specs.List.{zip}
+use Rattle.events.specs.declared.event.Event.{Event}
+use Rattle.semantics.specs.Trends.{chosen, weight}
+use Rattle.weights.specs.Kinds.{Kind, Monoid}
 use Rattle.listing.proofs.weighing.weight_of.Goals as goal
 
-pub loop-i-init : goal.loop-i-init
-loop-i-init g c =
-    c.one-all.ensures ∙ sym (ap (weight g.W.Weight.kind) (chosen_past c.args.marks.now c.args.events.now c.min-i.result c.min-i.ensures))
+-- the chain of a and the weights of the chosen events
+chained : {V : Type 0} (kind : Kind V) → Monoid kind.one kind.chain → (events : List Event) (marks : List Bool) (a : V)
+    → fold (λ all (pair : Event × Bool). kind.chain all (kind.weigh pair.0)) a (filter (λ pair. pair.1) (zip events marks)) ≡ kind.chain a (weight kind (chosen marks events))
+chained kind monoid [] [] a = sym (monoid.identity_right a)
+chained kind monoid [] (b ∷ marks) a = sym (monoid.identity_right a)
+chained kind monoid (e ∷ events) [] a = sym (monoid.identity_right a)
+chained kind monoid (e ∷ events) (true ∷ marks) a = chained kind monoid events marks (kind.chain a (kind.weigh e)) ∙ monoid.assoc a (kind.weigh e) (weight kind (chosen marks events))
+chained kind monoid (e ∷ events) (false ∷ marks) a = chained kind monoid events marks a
 
-pub loop-i-preserved-then-marks-i : goal.loop-i-preserved-then-marks-i
-loop-i-preserved-then-marks-i g c =
-    c.chain-all.ensures
-    ∙ ap₂ g.W.Weight.kind.chain c.weigh.ensures c.loop-i.invariant
-    ∙ sym (ap (weight g.W.Weight.kind) (chosen_more c.args.marks.now c.args.events.now c.loop-i.i c.loop-i-test.true (omega (arith, c.min-i.ensures)) c.index-events-i.result c.index-events-i.is c.if-marks-i.true))
-
-pub loop-i-preserved : goal.loop-i-preserved
-loop-i-preserved g c =
-    c.loop-i.invariant
-    ∙ sym (ap (weight g.W.Weight.kind) (chosen_less c.args.marks.now c.args.events.now c.loop-i.i c.loop-i-test.true (omega (arith, c.min-i.ensures)) c.if-marks-i.false))
+pub returns : goal.returns
+returns g c =
+    let kind = g.W.Weight.kind in
+    let monoid = g.met.W.Weight.lawful.chaining in
+    fold_from_yields_List _ (λ all (pair : Event × Bool). kind.chain all (kind.weigh pair.0)) c.one.result c.fold.result c.fold.ensures.ran
+    (YieldsList-from_filter _ (λ (pair : Event × Bool). pair.1) (YieldsList-from_zip (YieldsList-from_slice c.args.events.now (cc)) (YieldsList-from_slice c.args.marks.now (cc))) c.filter.ensures.closure (λ x b q k. search rules))
+    (λ a x b q k. search rules)
+    ∙ chained kind monoid c.args.events.now c.args.marks.now c.one.result
+    ∙ ap (λ one. kind.chain one (weight kind (chosen c.args.marks.now c.args.events.now))) c.one.ensures
+    ∙ monoid.identity_left (weight kind (chosen c.args.marks.now c.args.events.now))
