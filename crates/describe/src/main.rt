@@ -1,12 +1,12 @@
 //! Reads records of all formats from standard input and prints each as one line of text.
 #![tactic(auto)]
 
-mod line;
+ghost use Rattle.std.specs.Prelude.{◌≤◌, length, IfOk};
+
 mod record;
 
 use anyhow::anyhow;
-use line::{line_of, push_refusal};
-use record::{Record, next_record};
+use record::next_record;
 use records::refusal::{ReadFault, ReadRefusal};
 use std::alloc::{AllocError, Global};
 use std::io::Read;
@@ -23,18 +23,17 @@ struct Described {
 }
 
 /// The records of these bytes, up to the first that is not whole or is refused.
-fn describe(heap: Global, bytes: &[u8], place: u64) -> Result<Described, AllocError> {
+fn describe(heap: Global, bytes: &[u8], place: u64) -> Result<Described, AllocError>
+    ensures { IfOk result (λ told. told.used ≤ length bytes.now) }
+{
     let mut lines = String::new(heap);
     let mut rest = bytes;
     let mut fault = None;
-    for _ in 0..bytes.len() {
-        if rest.is_empty() {
-            break;
-        }
+    while !rest.is_empty() {
         let used = bytes.len().saturating_sub(rest.len());
         match next_record(rest, place.saturating_add(used as u64)) {
             Ok((record, after)) => {
-                lines.push_str(line_of(heap, record)?.as_str())?;
+                writeln!(lines, "{record}")?;
                 rest = after;
             }
             Err(refused) => {
@@ -56,9 +55,7 @@ fn may_go_on(fault: ReadFault) -> bool {
 }
 
 fn refuse(rt: &HostRuntime, fault: ReadFault) -> anyhow::Result<()> {
-    let mut text = String::new(rt.alloc());
-    push_refusal(&mut text, rt.alloc(), fault.refusal.number(), fault.place)?;
-    rt.print(text)?;
+    println!(rt; "{fault}")?;
     Err(anyhow!("a record is refused"))
 }
 
@@ -66,22 +63,21 @@ fn run(rt: &HostRuntime) -> anyhow::Result<()> {
     let mut input = rt.stdin();
     let mut pending: Vec<u8> = Vec::new(rt.alloc());
     let mut place = 0;
+    // A count, since input has no measure.
     for _ in 0..u64::MAX {
         let mut chunk = [0; CHUNK];
         let more = input.read(&mut chunk)?;
         pending.extend_from_slice(&chunk[0..more])?;
         let told = describe(rt.alloc(), pending.as_slice(), place)?;
         rt.print(told.lines)?;
-        if let Some(fault) = told.fault {
-            if more == 0 || !may_go_on(fault) {
-                return refuse(rt, fault);
-            }
+        if let Some(fault) = told.fault.filter(|&fault| more == 0 || !may_go_on(fault)) {
+            return refuse(rt, fault);
         }
         if more == 0 {
             break;
         }
         // What is left is part of one record, so it never piles up.
-        pending = pending.iter().skip(told.used).copied().collect(rt.alloc())?;
+        pending.drain(..told.used);
         place = place.saturating_add(told.used as u64);
     }
     Ok(())

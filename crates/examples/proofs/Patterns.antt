@@ -33,10 +33,10 @@ abbrev placed : List Node → List Node
 placed ns = ns ++ replicate (250 - length ns) (Name Test)
 
 pub batts_pattern : HasTree batts
-batts_pattern = (record { nodes = placed (Name Batt ∷ Plus ∷ []); len = 2; within = omega arith; one = refl; valid = ∣ batts_valid ∣₁ }, refl)
+batts_pattern = (record { nodes = record { items = placed (Name Batt ∷ Plus ∷ []); len = 2; sized = refl; within = omega arith }; one = refl; valid = ∣ batts_valid ∣₁ }, refl)
 
 pub drop_miss_pattern : HasTree drop_miss
-drop_miss_pattern = (record { nodes = placed (Name Drop ∷ Name Miss ∷ Pair ∷ []); len = 3; within = omega arith; one = refl; valid = ∣ drop_miss_valid ∣₁ }, refl)
+drop_miss_pattern = (record { nodes = record { items = placed (Name Drop ∷ Name Miss ∷ Pair ∷ []); len = 3; sized = refl; within = omega arith }; one = refl; valid = ∣ drop_miss_valid ∣₁ }, refl)
 
 pub drop_misses_pattern : HasTree drop_misses
-drop_misses_pattern = (record { nodes = placed (Name Drop ∷ Name Miss ∷ Plus ∷ Pair ∷ Plus ∷ []); len = 5; within = omega arith; one = refl; valid = ∣ drop_misses_valid ∣₁ }, refl)
+drop_misses_pattern = (record { nodes = record { items = placed (Name Drop ∷ Name Miss ∷ Plus ∷ Pair ∷ Plus ∷ []); len = 5; sized = refl; within = omega arith }; one = refl; valid = ∣ drop_misses_valid ∣₁ }, refl)

@@ -1,5 +1,6 @@
 -- Calls answered by computing, from the pattern's tree: what comes out is as defined.
 use Rattle.std.proofs.Common.{◌≡◌, ℕ, Bool, cond, not, ◌&&◌, ◌||◌, eqb, ltb, leb, List, [], ◌∷◌, reverse, length, Some, None, Ok, Err, filter, Option, Result, refl, ap, subst}
+use Rattle.std.specs.List.{list_any}
 use Rattle.events.specs.declared.event.Event.{Event}
 use Rattle.events.specs.Types.{code_of}
 use Rattle.grammar.specs.Trees.{part, Tree, names}
@@ -12,7 +13,7 @@ use Rattle.semantics.specs.declared.refusal.CallRefusal.{CallRefusal}
 use Rattle.semantics.specs.declared.refusal.CallRefusal.TheVariants as refusal
 use Rattle.semantics.specs.declared.refusal.Taken.TheVariants.{Passed, Kept}
 use Rattle.semantics.specs.declared.setup.Setup.{Setup}
-use Rattle.semantics.specs.Histories.{take, tick, result, group, report, close, History, accepted, clock, first, any_of, Question, first_no, tick_questions, window_questions, close_questions}
+use Rattle.semantics.specs.Histories.{take, tick, result, group, report, close, History, accepted, clock, first, Question, first_no, tick_questions, window_questions, close_questions}
 use Rattle.semantics.specs.Meaning.{Answers, Defined}
 use Rattle.semantics.specs.Recursion.{Valued, value_of, Filled, total, events_of}
 use Rattle.semantics.specs.Trends.{ResultIs}
@@ -42,7 +43,7 @@ module _ {V R : Type 0} (kind : Kind V) (rule : Rule R) (s : Setup R) where
   row_filled t k (e ∷ es) = (λ i. refl, row_filled t k es)
 
   abbrev named : Tree part → ℕ → Bool
-  named t code = any_of (λ k. eqb (code_of k) code) (names t)
+  named t code = list_any (λ k. eqb (code_of k) code) (names t)
 
   -- what take asks after the history
   abbrev taking : Tree part → History V → Event → List Question

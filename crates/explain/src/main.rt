@@ -3,14 +3,15 @@
 
 mod show;
 
-use show::explain;
+use show::Explained;
 use std::io::{BufRead, BufReader};
 
+// The same loop as in `pattern_cases`: each program has one, and a crate for it would be longer.
 fn run(rt: &HostRuntime) -> anyhow::Result<()> {
     let input = BufReader::new(rt.alloc(), rt.stdin())?;
     for line in input.split(rt.alloc(), b'\n') {
-        let text = explain(rt.alloc(), line?.as_slice())?;
-        rt.print(text)?;
+        let line = line?;
+        print!(rt; "{}", Explained(line.as_slice()))?;
     }
     Ok(())
 }

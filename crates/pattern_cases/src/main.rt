@@ -3,33 +3,33 @@
 #![tactic(auto)]
 
 use pattern::Pattern;
-use std::alloc::{AllocError, Global};
+use std::fmt;
 use std::io::{BufRead, BufReader};
 
-fn answer(heap: Global, text: &[u8]) -> Result<String, AllocError> {
-    let pattern = match Pattern::parse(text) {
-        Ok(pattern) => pattern,
-        Err(fault) => {
-            let number = fault.refusal.number();
-            let place = fault.place;
-            return format!(in heap; "{number} at {place}");
+/// The refusal's number and place, or 0 and the text written back.
+#[derive(Clone, Copy)]
+struct Answer<'a>(&'a [u8]);
+
+impl fmt::Display for Answer<'_> {
+    fn fmt<W: fmt::Write>(&self, f: &mut fmt::Formatter<W>) -> fmt::Result {
+        match Pattern::parse(self.0) {
+            Ok(pattern) => {
+                let mut bytes = [0; 250];
+                let len = pattern.write(&mut bytes).map_err(|_| fmt::Error)?;
+                let text = str::from_utf8(&bytes[..len]).map_err(|_| fmt::Error)?;
+                write!(f, "0 {text}")
+            }
+            Err(fault) => write!(f, "{} at {}", u8::from(fault.refusal), fault.place),
         }
-    };
-    let mut bytes = [0; 250];
-    let Ok(len) = pattern.write(&mut bytes) else {
-        return format!(in heap; "no room");
-    };
-    let mut out = format!(in heap; "0 ")?;
-    for byte in bytes.iter().take(len) {
-        out.push(char::from(*byte))?;
     }
-    Ok(out)
 }
 
+// The same loop as in `explain`: each program has one, and a crate for it would be longer.
 fn run(rt: &HostRuntime) -> anyhow::Result<()> {
     let input = BufReader::new(rt.alloc(), rt.stdin())?;
     for line in input.split(rt.alloc(), b'\n') {
-        rt.println(answer(rt.alloc(), line?.as_slice())?)?;
+        let line = line?;
+        println!(rt; "{}", Answer(line.as_slice()))?;
     }
     Ok(())
 }
@@ -59,7 +59,7 @@ mod tests {
             let Err(fault) = Pattern::parse(&[byte]) else {
                 return Err(Fail::new("a single byte is no pattern"));
             };
-            assert_eq!(rt; (fault.refusal.number(), fault.place), expected(byte));
+            assert_eq!(rt; (u8::from(fault.refusal), fault.place), expected(byte));
         }
         Ok(())
     }
