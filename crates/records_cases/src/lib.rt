@@ -1,6 +1,8 @@
 //! The readers and writers of records at single inputs.
 #![tactic(auto)]
 
+ghost use Rattle.std.specs.Prelude.{◌≡◌, slice_index};
+
 use events::Event;
 use reading::{read_header, read_input, read_output};
 use records::record::{
@@ -94,7 +96,10 @@ fn cut(size: usize) -> Option<ReadFault> {
 }
 
 /// A header without gap and text, of this kind and this rule.
-fn header_of(kind: u8, rule: u8) -> [u8; 14] {
+fn header_of(kind: u8, rule: u8) -> [u8; 14]
+    ensures kind { slice_index result 11 ≡ kind }
+    ensures rule { slice_index result 12 ≡ rule }
+{
     [0x48, 0x44, 0, 0, 0, 0, 0, 0, 0, 0, 0, kind, rule, 0]
 }
 

@@ -1,4 +1,6 @@
 //! Each kind at 0, 1, T - 1, T and where sums and products pass T. Values are written by the pair of numbers that they tell.
+ghost use Rattle.std.specs.Prelude.{◌≡◌};
+
 use events::Event;
 use weights::{Count, Least, LeastWays, Most, Reported, Told, Weight, read_as};
 
@@ -68,7 +70,10 @@ fn value<W: Reported>(pair: Pair) -> W {
     })
 }
 
-fn pair<W: Reported>(value: W) -> Pair {
+fn pair<W: Reported>(value: W) -> Pair
+    ensures first { result.0 ≡ (W.Reported.report.tells value).first }
+    ensures second { result.1 ≡ (W.Reported.report.tells value).second }
+{
     let told = value.tells();
     (told.first, told.second)
 }
