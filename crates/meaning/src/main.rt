@@ -17,3 +17,20 @@ fn run(rt: &HostRuntime) -> anyhow::Result<()> {
 fn main(rt: HostRuntime) -> anyhow::Result<()> {
     run(&rt)
 }
+
+#[cfg(test)]
+mod tests {
+    use semantics::refusal::CallRefusal;
+    use std::test::Fail;
+
+    // That printing succeeds, which no clause says.
+    #[test]
+    fn a_refused_call_is_printed(rt: HostRuntime) -> Result<(), Fail> {
+        let refusal = CallRefusal::Late.to_string(rt.alloc())?;
+        assert_eq!(rt;
+            refusal.as_str(),
+            "the first open window has ended by this time"
+        );
+        Ok(())
+    }
+}

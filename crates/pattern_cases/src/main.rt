@@ -73,4 +73,12 @@ mod tests {
         assert_eq!(rt; bytes, *b"BATT..");
         assert!(rt; pattern.write(&mut bytes[0..3]).is_err());
     }
+
+    // That printing succeeds, which no clause says.
+    #[test]
+    fn a_refused_write_is_printed(rt: HostRuntime) -> Result<(), Fail> {
+        let refusal = pattern::WriteRefusal::Room.to_string(rt.alloc())?;
+        assert_eq!(rt; refusal.as_str(), "the given bytes do not hold the text");
+        Ok(())
+    }
 }

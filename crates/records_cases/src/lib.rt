@@ -3,13 +3,14 @@
 
 ghost use Rattle.std.specs.Prelude.{◌≡◌, slice_index};
 
-use events::Event;
+use events::{Event, UnknownType};
 use reading::{read_header, read_input, read_output};
 use records::record::{
-    FaultRecord, Header, Input, KindNumber, Output, ResultRecord, RuleSetting, Tick,
+    FaultRecord, Header, Input, KindNumber, Output, ResultRecord, RuleSetting, Tick, UnknownKind,
 };
 use records::refusal::{ReadFault, ReadRefusal, WriteRefusal};
 use records::write::ToBytes;
+use std::test::Fail;
 
 /// A header of every part: Near with the greatest gap, and the text BATT+.
 const NEAR: [u8; 23] = [
@@ -290,4 +291,19 @@ fn numbers(rt: HostRuntime) {
     }
     assert_eq!(rt; u8::from(RuleSetting::Falling), 1);
     assert_eq!(rt; u8::from(RuleSetting::Near { gap: 0 }), 2);
+}
+
+// That printing succeeds, which no clause says.
+#[test]
+fn printed(rt: HostRuntime) -> Result<(), Fail> {
+    let heap = rt.alloc();
+    let refusal = ReadRefusal::Short.to_string(heap)?;
+    assert_eq!(rt; refusal.as_str(), "the record is cut short");
+    let refusal = WriteRefusal::Room.to_string(heap)?;
+    assert_eq!(rt; refusal.as_str(), "there is no room for the header");
+    let unknown = UnknownKind.to_string(heap)?;
+    assert_eq!(rt; unknown.as_str(), "no weight kind has this number");
+    let unknown = UnknownType.to_string(heap)?;
+    assert_eq!(rt; unknown.as_str(), "no event type has this code or name");
+    Ok(())
 }
