@@ -22,13 +22,24 @@ impl fmt::Display for Explained<'_> {
 #[derive(Clone, Copy)]
 struct Shown<'a>(&'a [u8]);
 
+/// The first 64 bytes, `?` in place of each that cannot be printed.
+fn printable(bytes: &[u8]) -> [u8; 64] {
+    let mut shown = [b'?'; 64];
+    for (place, &byte) in shown.iter_mut().zip(bytes) {
+        if matches!(byte, b' '..=b'~') {
+            *place = byte;
+        }
+    }
+    shown
+}
+
 impl fmt::Display for Shown<'_> {
     fn fmt<W: fmt::Write>(&self, f: &mut fmt::Formatter<W>) -> fmt::Result {
-        for &byte in self.0 {
-            f.write_char(match byte {
-                b' '..=b'~' => char::from(byte),
-                _ => '?',
-            })?;
+        // Many bytes at once: one by one they take up to twice the time.
+        for bytes in self.0.chunks(64) {
+            let shown = printable(bytes);
+            let text = &shown[..bytes.len().min(64)];
+            f.write_str(str::from_utf8(text).map_err(|_| fmt::Error)?)?;
         }
         Ok(())
     }

@@ -26,7 +26,8 @@ impl Parser {
     /// Opens a bracket, if it is not one too many.
     // The count is asked after the grammar has said yes, by a guard.
     fn open(&mut self, bracket: Bracket) -> Result<(), ReadRefusal>
-        ensures { Follows (opens bracket (view self.old).brackets (view self.old).nodes) result self.new }
+        ensures grown { self.new.nodes.len ≤ self.old.nodes.len + 1 }
+        ensures verdict { Follows (opens bracket (view self.old).brackets (view self.old).nodes) result self.new }
     {
         match self.brackets.len() {
             count if count < MOST_OPEN => {
@@ -42,7 +43,8 @@ impl Parser {
     // which the parser does not keep.
     fn close(&mut self) -> Result<(), ReadRefusal>
         requires { self.old.nodes.len < 250 }
-        ensures { Follows (closes (view self.old).brackets (view self.old).nodes) result self.new }
+        ensures grown { self.new.nodes.len ≤ self.old.nodes.len + 1 }
+        ensures verdict { Follows (closes (view self.old).brackets (view self.old).nodes) result self.new }
     {
         let Some(bracket) = self.brackets.pop() else {
             return Err(ReadRefusal::Grammar);
@@ -59,7 +61,8 @@ impl Parser {
 
     fn comma(&mut self) -> Result<(), ReadRefusal>
         requires { self.old.nodes.len < 250 }
-        ensures { Follows (parts (view self.old).brackets (view self.old).nodes) result self.new }
+        ensures grown { self.new.nodes.len ≤ self.old.nodes.len + 1 }
+        ensures verdict { Follows (parts (view self.old).brackets (view self.old).nodes) result self.new }
     {
         let Some(bracket) = self.brackets.pop() else {
             return Err(ReadRefusal::Grammar);
@@ -82,7 +85,8 @@ impl Parser {
 
     fn name(&mut self, kind: EventType) -> Result<(), ReadRefusal>
         requires { self.old.nodes.len < 250 }
-        ensures { Follows (names_part kind (view self.old).brackets (view self.old).nodes) result self.new }
+        ensures grown { self.new.nodes.len ≤ self.old.nodes.len + 1 }
+        ensures verdict { Follows (names_part kind (view self.old).brackets (view self.old).nodes) result self.new }
     {
         if self.nodes.as_slice().contains(&Node::Name(kind)) {
             return Err(ReadRefusal::Repeat);
@@ -95,7 +99,8 @@ impl Parser {
     /// Takes one token more, or says why it cannot.
     pub fn accept(&mut self, symbol: Symbol) -> Result<(), ReadRefusal>
         requires { self.old.nodes.len < 250 }
-        ensures { Follows (verdict (view self.old) symbol) result self.new }
+        ensures grown { self.new.nodes.len ≤ self.old.nodes.len + 1 }
+        ensures verdict { Follows (verdict (view self.old) symbol) result self.new }
     {
         match (self.mode, symbol) {
             (Mode::Part, Symbol::Name(kind)) => self.name(kind),

@@ -21,7 +21,8 @@ impl Parser {
     // Room for a node is a premise, as at `accept`.
     fn take(&mut self, placed: Placed) -> Result<(), ReadFault>
         requires { self.old.nodes.len < 250 }
-        ensures { Took (view self.old) placed.entry result (view self.new) }
+        ensures grown { self.new.nodes.len ≤ self.old.nodes.len + 1 }
+        ensures took { Took (view self.old) placed.entry result (view self.new) }
     {
         let place = placed.place;
         let Some(symbol) = placed.token.symbol() else {

@@ -17,7 +17,6 @@ use grammar::Symbol;
 pub struct Tokens<'a> {
     text: &'a [u8],
     at: usize,
-    ghost within: { at ≤ length text.now },
 }
 
 // Spaces and letters apart: a test as a parameter would have to be told in each clause below.
@@ -37,12 +36,14 @@ fn leading_letters(text: &[u8]) -> usize
 
 /// The first place from `from` on where no space stands.
 fn past_spaces(text: &[u8], from: usize) -> usize
-    requires { from ≤ length text.now }
     ensures ahead { from ≤ result }
     ensures cut { (ss : List Stretch) → Cut result (drop result text.now) ss → Cut from (drop from text.now) ss }
     ensures stops { result < length text.now → slice_index text.now result ≢ 32 }
 {
-    from + leading_spaces(&text[from..])
+    match text.get(from..) {
+        Some(rest) => from + leading_spaces(rest),
+        None => from,
+    }
 }
 
 /// The first place from `from` on where no letter stands.

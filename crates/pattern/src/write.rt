@@ -145,6 +145,15 @@ impl Draft {
         }
     }
 
+    /// Puts a whole pattern's text, where there is none so far.
+    // Into a draft that is lent: one that is answered would be copied.
+    fn whole(&mut self, pattern: &Pattern)
+        requires { drafted self.old ≡ [] }
+        ensures { drafted self.new ≡ written (tree pattern.now) }
+    {
+        let _none = self.part(pattern.nodes.as_slice());
+    }
+
     /// The text so far.
     fn text(&self) -> &[u8]
         ensures { result.now ≡ drafted self.now }
@@ -167,21 +176,14 @@ impl Draft {
 }
 
 impl Pattern {
-    /// The pattern's text, in memory of its own.
-    fn draft(&self) -> Draft
-        ensures { drafted result ≡ written (tree self.now) }
-    {
-        let mut draft = Draft::new();
-        let _none = draft.part(self.nodes.as_slice());
-        draft
-    }
-
     /// Writes the pattern's text to the front of the given bytes and answers its length.
     pub fn write(&self, out: &mut [u8]) -> Result<usize, WriteRefusal>
         ensures text { Written (written (tree self.now)) out.old result out.new }
         ensures reads { Reads (written (tree self.now)) (accepted (tree self.now)) }
     {
-        self.draft().copy_to(out)
+        let mut draft = Draft::new();
+        draft.whole(self);
+        draft.copy_to(out)
     }
 }
 
@@ -189,7 +191,8 @@ impl fmt::Display for Pattern {
     ghost output = { λ pattern. Some (written (tree pattern)) };
 
     fn fmt<W: fmt::Write>(&self, f: &mut fmt::Formatter<W>) -> fmt::Result {
-        let draft = self.draft();
+        let mut draft = Draft::new();
+        draft.whole(self);
         let text = str::from_utf8(draft.text()).map_err(|_| fmt::Error)?;
         f.write_str(text)
     }

@@ -299,6 +299,12 @@ fn printed(rt: HostRuntime) -> Result<(), Fail> {
     let heap = rt.alloc();
     let refusal = ReadRefusal::Short.to_string(heap)?;
     assert_eq!(rt; refusal.as_str(), "the record is cut short");
+    let fault = ReadFault {
+        refusal: ReadRefusal::Mark,
+        place: 4294967296,
+    };
+    let fault = fault.to_string(heap)?;
+    assert_eq!(rt; fault.as_str(), "refused 32 at 4294967296");
     let refusal = WriteRefusal::Room.to_string(heap)?;
     assert_eq!(rt; refusal.as_str(), "there is no room for the header");
     let unknown = UnknownKind.to_string(heap)?;

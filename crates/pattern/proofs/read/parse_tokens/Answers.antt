@@ -39,13 +39,13 @@ pub loop-placed-preserved : goal.loop-placed-preserved
 loop-placed-preserved c =
     let inv = c.loop-placed.invariant in
     let is = token (goal.at.loop-placed-preserved c).In-Some in
-    let took = c.in_ok-take.ensures in
+    let took = c.in_ok-take.ensures.took in
     (c.next.ensures.text ∙ inv.0, is.first.within, one_more c.args.text.now c.loop-placed.tokens.at c.loop-placed.parser inv.2 c.take.new.self c.in-Some.placed c.next.new.self.at took.0 is took.1 took.2)
 
 pub returns-in_err-take : goal.returns-in_err-take
 returns-in_err-take c =
     let p = err_from_is_err_and c.from_residual-in_err-take.result c.from_residual-in_err-take.ensures.1 in
-    rw (p.1, p.2) (one_stop c.args.text.now c.loop-placed.tokens.at c.loop-placed.parser c.loop-placed.invariant.2 c.in-Some.placed c.next.new.self.at c.in_err-take.field-0.0 (token (goal.at.returns-in_err-take c).In-Some) c.in_err-take.ensures)
+    rw (p.1, p.2) (one_stop c.args.text.now c.loop-placed.tokens.at c.loop-placed.parser c.loop-placed.invariant.2 c.in-Some.placed c.next.new.self.at c.in_err-take.field-0.0 (token (goal.at.returns-in_err-take c).In-Some) c.in_err-take.ensures.took)
 
 pub returns-then-not-is_whole : goal.returns-then-not-is_whole
 returns-then-not-is_whole c = cut_short c.args.text.now c.loop-placed.tokens.at c.loop-placed.parser c.loop-placed.invariant.2 (none (goal.at.returns-then-not-is_whole c).In_default) (sym c.if-not-is_whole.ensures)
