@@ -1,4 +1,4 @@
-use Rattle.std.proofs.Common.{◌≡◌, ◌≤◌, ◌==◌, length, drop, ap, ◌∙◌, arith}
+use Rattle.std.proofs.Common.{◌==◌, ap, ◌∙◌, arith}
 use Rattle.std.proofs.lemmas.List.{take_rest}
 use Rattle.std.specs.List.{prefix_len}
 use Rattle.pattern.proofs.Cutting.{count_within, spaces_counted, solid_behind}
